@@ -6,8 +6,8 @@
 The command is the toolchain's own, and proves and tests what it does without this file. Its check of a static library has one flag
 more, `-o out/checked`: the toolchain writes there what it proved, with sums of all files that it read and of the code.
 `tools/archive.py --beside-ci` has the crate compiled by that record, and the toolchain refuses it where anything differs.
-The two lowest libraries get a job for each processor, since nothing else can be proved before them. Under a toolchain whose
-command has other steps this is plain `rt ci`, and the archive's crate is proved once more.
+The two lowest libraries get a job for each of half of the processors, since nothing else can be proved before them; the others
+try edits. Under a toolchain whose command has other steps this is plain `rt ci`, and the archive's crate is proved once more.
 """
 import importlib.machinery
 import importlib.util
@@ -49,7 +49,7 @@ def main():
 
         def ci(self, flags, tests):
             if self.name in LOWEST and not tests:
-                flags = ["--jobs", str(run.processors())]
+                flags = ["--jobs", str(max(run.processors() // 2, 1))]
             return super().ci(flags, tests)
 
         def prove(self, *commands):

@@ -4,10 +4,10 @@
     python3 tools/must_fail.py [--edits FOLDER] [--proved FOLDER] [CRATE[/EDIT] ..]
 
 `rt ci` and `rt must-fail` check a crate once for each edit. The prover reports the open goals of every function, so here the edits
-of a crate are tried together, no two of one function in a round. An edit whose goal is not seen there is tried again by itself, and
-so is an edit of a constant. The other functions of the crate are taken by their contracts: each has a hole in place of its proof,
-which `rt ci` checks, and none of its body, but not where an edit is tried over all proofs. The libraries below a crate are those
-that `rt ci` or `rt check` left. With `--edits` the edits are FOLDER/CRATE/*.edit. With `--proved` the edits of a crate wait until the folder
+of a crate are tried together, and where two change one function, the second changes a copy of it beside it. An edit whose goal is
+not seen there is tried again by itself, and so is an edit of a constant. The other functions of the crate are taken by their
+contracts: each has a hole in place of its proof, which `rt ci` checks, and none of its body, but not where an edit is tried over all
+proofs. The libraries below a crate are those that `rt ci` or `rt check` left. With `--edits` the edits are FOLDER/CRATE/*.edit. With `--proved` the edits of a crate wait until the folder
 has a file of the name of each library below it: so the gate tries edits while it proves.
 
 Prints the first open goal for each edit, and last `N of M edits refused`. An edit is refused by a goal of a function that it changes
@@ -46,10 +46,12 @@ ANSWERED = re.compile(r"(?:\./)?(proofs/\S+/Answers\.antt):\d+:\d+: error: `(\S+
 OF_NAMES = re.compile(r"(?:note: )?(?:\./)?proofs/.*(?:has no field|is not in scope|has no `|was not admitted|was rejected)")
 NO_FUNCTION = re.compile(r"has no function `(\S+)`")
 # with fewer a crate's statements are read more often, with more a last round takes long while other processors idle
-EDITS_OF_A_ROUND = 16
+EDITS_OF_A_ROUND = 24
 # a proof that the prover does not read, as of a function without a body
 UNREAD_PROOF = re.compile(r"^(?:\./)?proofs/(\S+)/\w+\.antt: error(?:\[reserved-name\])?: rattle ", re.M)
 CYCLE = re.compile(r"\s*#\[cycle\((\w+)\)\]")
+# what the name of a copy of a function has between that of the function and the number of the edit
+COPY = "_edit_"
 HOLE = "use Rattle.{crate}.proofs.{statement}.{{statement}}\n\npub {name}_spec : {{M : Type 1}} → statement M\n{name}_spec = ?\n"
 
 
@@ -134,21 +136,50 @@ def proof_of(crate, path, lines):
     return "::".join([*above, f"+{cycle}"]) if is_cycle else path
 
 
-def without_body(lines, at):
-    """Returns the lines of a file with another body for the function that begins at a line: it has as many lines, and does nothing."""
+def body_of(lines, at):
+    """Returns the first and the last line of the body of the function that begins at a line."""
     indent = re.match(" *", lines[at])[0]
     ends = [number for number in range(at, len(lines)) if lines[number].startswith(indent) and lines[number][len(indent) : len(indent) + 1].strip()]
     first = next(number for number in ends if lines[number].endswith(("{", "}", ";")))
-    last = next((number for number in ends if number > first), first)
+    return first, next((number for number in ends if number > first), first)
+
+
+def without_body(lines, at):
+    """Returns the lines of a file with another body for the function that begins at a line: it has as many lines, and does nothing."""
+    indent = re.match(" *", lines[at])[0]
+    first, last = body_of(lines, at)
     if "const fn" in lines[at] or not lines[first].endswith("{") or lines[last] != f"{indent}}}" or last - first < 2:
         return lines
     return [*lines[: first + 1], f"{indent}    unreachable!()", *[""] * (last - first - 2), *lines[last:]]
+
+
+def keep_answers(path, goals):
+    """Keeps of the proofs in a file those of some goals."""
+    text = path.read_text(encoding="utf-8")
+    path.write_text(ANSWER.sub(lambda it: it[0] if it[1] in goals else "", text), encoding="utf-8")
 
 
 def is_of(goal, clauses):
     """Returns whether the proof of a goal can fail where one of these clauses does: it is of that clause, or of no clause on a result."""
     clause = re.match(r"returns\b.*\bclause-(.*)", goal)
     return not clause or clause[1] in clauses
+
+
+def searching_nothing(lines, at):
+    """Returns the line of a function with an attribute by which the prover searches for no proof of its goals."""
+    has_other = any("tactic(" in line for line in attributes_above(lines, at))
+    return lines[at] if has_other else re.sub(r"^( *)", r"\1#[tactic(none)] ", lines[at])
+
+
+def block_of(lines, at):
+    """Returns the first and the last line of the function that begins at a line, with its comments and attributes."""
+    return at - len(attributes_above(lines, at)), body_of(lines, at)[1]
+
+
+def is_of_trait(lines, at):
+    """Returns whether the function that begins at a line is of a trait, or of an impl of one."""
+    header = next((it for line in reversed(lines[:at]) if (it := IMPL.match(line))), None)
+    return lines[at].startswith(" ") and bool(header[1] or header[4])
 
 
 class Edit:
@@ -167,6 +198,8 @@ class Edit:
         self.vain = set()
         # whether the prover is to search for no proof of a goal: a wrong proof in `Answers.antt` refuses it as well
         self.is_by_answers = False
+        # the number of the copy of its function that it changes, or 0 where it changes the function itself
+        self.number = 0
         # by module and name, and by the name that the prover takes, with the module beside it
         self.functions, self.paths = set(), {}
         self.goal = self.said = None
@@ -238,17 +271,22 @@ class Edit:
         self.paths[path_of(self.crate, module, found)] = module
 
     def fits_beside(self, other):
-        """Returns whether both can be tried in one round."""
+        """Returns whether both can be tried in one round, each on the functions themselves."""
         return not (self.is_alone or other.is_alone or self.functions & other.functions)
 
     def try_otherwise(self):
-        """Has it tried in another way, if there is one, and returns whether there is."""
+        """Has it tried in another way, by itself, if there is one, and returns whether there is."""
+        self.number = 0
         if not self.has_new_vain and self.is_over_proofs:
             return False
         if not self.has_new_vain:
             self.is_over_proofs = not self.is_by_answers
         self.is_by_answers = False
         return True
+
+    def tried(self, path):
+        """Returns the path of the function that it changes, or of the copy of that."""
+        return f"{path}{COPY}{self.number}" if self.number else path
 
     def how(self):
         """Returns in words how it is tried."""
@@ -261,40 +299,49 @@ class Edit:
         for goal, function in goals:
             if self.is_by_answers and not ANSWERED.match(goal):
                 continue
-            if not self.goal and function[1] in self.named and (self.is_alone or function in self.functions):
-                self.goal = f"{function[1]}: {goal[:120]}"
+            module, name, number = function
+            if not self.goal and name in self.named and number == self.number and (self.is_alone or (module, name) in self.functions):
+                self.goal = f"{name}: {goal[:120]}"
 
 
-def rounds_of(edits):
-    """Puts edits into rounds of a few, which run side by side, no two of one function in a round."""
+def rounds_of(edits, can_copy):
+    """Puts edits into rounds of a few, which run side by side. An edit that can change a copy does, where another of the round changes
+    its function."""
     rounds = []
     for edit in edits:
-        fitting = next((it for it in rounds if len(it) < EDITS_OF_A_ROUND and all(edit.fits_beside(other) for other in it)), None)
+        fits = lambda other: edit.fits_beside(other) or (can_copy(edit) and not other.is_alone)
+        fitting = next((it for it in rounds if len(it) < EDITS_OF_A_ROUND and all(map(fits, it))), None)
         if fitting is None:
             fitting = []
             rounds.append(fitting)
+        edit.number = 0 if all(map(edit.fits_beside, fitting)) else len(fitting)
         fitting.append(edit)
     return rounds
 
 
 class Trial:
-    """Tries the edits of a crate on copies of it. Later rounds take what the first one proved of functions that no edit changes."""
+    """Tries the edits of a crate on copies of it. Later rounds take what earlier ones proved of functions that no edit changes."""
 
     def __init__(self, rtlib, crate, edits):
         self.rtlib, self.crate = rtlib, crate
-        self.rounds = rounds_of(edits)
-        self.first = min(self.rounds, key=len)
-        # the folder of what the first round proved
-        self.kept, self.is_begun = None, False
+        # the folder of what its rounds proved so far
+        self.kept = None
         # the proofs that can have a hole, each with its functions, and where these begin
         self.others, self.places = {}, {}
         for path, proof, place in functions_of(crate):
             self.others.setdefault(proof, set()).add(path)
             self.places.setdefault(path, []).append(place)
+        self.rounds = rounds_of(edits, self.can_copy)
 
-    def may_begin(self):
-        """Returns whether a round can begin: the first, or any other once that has ended."""
-        return self.kept is not None or not self.is_begun
+    def can_copy(self, edit):
+        """Returns whether an edit can change a copy of a function: it changes only one, of no trait, which has a proof of its own."""
+        places = [place for path in edit.paths for place in self.places.get(path, ())]
+        if not edit.is_by_answers or len(edit.paths) != 1 or len(places) != 1 or self.others.get(*edit.paths) != {*edit.paths}:
+            return False
+        file, at = places[0]
+        lines = source(self.crate.name, file).split("\n")
+        first, last = block_of(lines, at)
+        return not is_of_trait(lines, at) and all(it == file and first <= number <= last for it, number in edit.lines)
 
     def try_round(self, edits):
         """Tries some edits together, and returns the seconds of a processor that this took."""
@@ -318,7 +365,7 @@ class Trial:
     def find_vain(self, edit, goals, texts):
         """Notes the proofs of functions that an edit changes which name what it took away, and returns whether there is a new one."""
         said = [(goal, ANSWERED.match(goal)) for goal in goals if OF_NAMES.match(goal)]
-        found = {it.groups() for goal, it in said if it and self.function_of(goal, texts) in edit.functions}
+        found = {it.groups() for goal, it in said if it and not edit.number and self.function_of(goal, texts)[:2] in edit.functions}
         is_new = not found <= edit.vain
         edit.vain |= found
         return is_new
@@ -330,20 +377,26 @@ class Trial:
     def checked_with(self, edits):
         """Returns the texts that edits change, and what the check of a copy with these says and takes."""
         with tempfile.TemporaryDirectory(prefix="must-fail-") as room:
-            texts = self.copy_with(edits, room)
+            texts = self.copy_with([edit for edit in edits if not edit.number], room)
             if not any(edit.is_alone or edit.is_over_proofs for edit in edits):
                 self.put_holes({path for edit in edits for path in edit.paths}, room)
             for edit in edits:
-                if edit.is_by_answers:
+                if edit.is_by_answers and not edit.number:
                     self.search_nothing(edit, room)
+            self.add_copies([edit for edit in edits if edit.number], room, texts)
             if self.kept:
                 shutil.copytree(self.kept.name, f"{room}/kept", copy_function=link_or_copy)
             os.makedirs(f"{room}/kept", exist_ok=True)
-            said, took = self.check(room, {path: module for edit in edits for path, module in edit.paths.items()})
-            if self.kept is None and not self.unread_in(said):
-                self.kept = tempfile.TemporaryDirectory(prefix="must-fail-kept-")
-                shutil.copytree(f"{room}/kept", self.kept.name, dirs_exist_ok=True, copy_function=link_or_copy)
+            said, took = self.check(room, {edit.tried(path): module for edit in edits for path, module in edit.paths.items()})
+            if not self.unread_in(said):
+                self.keep(f"{room}/kept")
         return texts, said, took
+
+    def keep(self, folder):
+        """Keeps what a round proved, for later rounds: the prover takes of it what fits."""
+        self.kept = self.kept or tempfile.TemporaryDirectory(prefix="must-fail-kept-")
+        copy = lambda one, other: os.path.exists(other) or link_or_copy(one, other)
+        shutil.copytree(folder, self.kept.name, dirs_exist_ok=True, copy_function=copy)
 
     def put_holes(self, changed, room):
         """Puts a hole in place of each proof of functions that no edit changes, and no body in place of theirs."""
@@ -367,14 +420,40 @@ class Trial:
         for path in edit.paths:
             for file, at in self.places.get(path, ()):
                 lines = pathlib.Path(room, file).read_text(encoding="utf-8").split("\n")
-                if not any("tactic(" in line for line in attributes_above(lines, at)):
-                    lines[at] = re.sub(r"^( *)", r"\1#[tactic(none)] ", lines[at])
-                    pathlib.Path(room, file).write_text("\n".join(lines), encoding="utf-8")
-            file = answers_of(path)
-            if pathlib.Path(room, file).exists():
-                text = pathlib.Path(room, file).read_text(encoding="utf-8")
-                kept = ANSWER.sub(lambda it, file=file: it[0] if (file, it[1]) in answers else "", text)
-                pathlib.Path(room, file).write_text(kept, encoding="utf-8")
+                lines[at] = searching_nothing(lines, at)
+                pathlib.Path(room, file).write_text("\n".join(lines), encoding="utf-8")
+            if pathlib.Path(room, answers_of(path)).exists():
+                keep_answers(pathlib.Path(room, answers_of(path)), {goal for file, goal in answers if file == answers_of(path)})
+
+    def add_copies(self, edits, room, texts):
+        """Adds, for each edit, a copy of the function that it changes below that, with a copy of its proofs."""
+        added = {}
+        for edit in edits:
+            path = next(iter(edit.paths))
+            file, at = self.places[path][0]
+            lines = source(self.crate.name, file).split("\n")
+            first, last = block_of(lines, at)
+            for (_, number), line in edit.lines.items():
+                lines[number] = line
+            lines[at] = re.sub(r"\bfn (\w+)", rf"fn \1{COPY}{edit.number}", searching_nothing(lines, at))
+            added.setdefault(file, []).append((last, lines[first : last + 1]))
+            self.copy_proofs(edit, path, room)
+        for file, copies in added.items():
+            lines = pathlib.Path(room, file).read_text(encoding="utf-8").split("\n")
+            for last, copy in sorted(copies, reverse=True):
+                lines[last + 1 : last + 1] = ["", *copy]
+            texts[file] = "\n".join(lines)
+            pathlib.Path(room, file).write_text(texts[file], encoding="utf-8")
+
+    def copy_proofs(self, edit, path, room):
+        """Copies the proofs of a function for the copy that an edit changes."""
+        dotted, name = path.replace("::", r"\."), path.split("::")[-1]
+        folder = pathlib.Path(room, "proofs", *edit.tried(path).split("::"))
+        shutil.copytree(pathlib.Path(self.crate.folder, "proofs", *path.split("::")), folder)
+        keep_answers(folder / "Answers.antt", {goal for _, goal in edit.answers()})
+        for file in folder.glob("*.antt"):
+            text = re.sub(rf"(\.proofs\.{dotted}\b)", rf"\1{COPY}{edit.number}", file.read_text(encoding="utf-8"))
+            file.write_text(re.sub(rf"\b{name}_spec\b", f"{name}{COPY}{edit.number}_spec", text), encoding="utf-8")
 
     def drop_bodies(self, paths, room):
         """Drops the bodies of functions, since their contracts are taken without a proof."""
@@ -427,16 +506,17 @@ class Trial:
             chosen = dict.fromkeys(sorted({paths[it] if it in unknown else it for it in chosen}))
 
     def function_of(self, goal, texts):
-        """Returns the module and the name of the function whose goal this is."""
+        """Returns the module and the name of the function whose goal this is, and the number of the copy, or 0."""
         found = GOAL.match(goal)
         if found["proof"]:
             *above, name = found["proof"].split("/")
-            module = above[:-1] if above and not above[-1][0].islower() else above
-            # the folder of a function that calls itself begins with a plus
-            return "::".join(module), name.removeprefix("+")
-        file = found["source"]
-        function = function_at(texts.get(file) or source(self.crate.name, file), int(found["line"])) or ""
-        return module_of(file), function.split("::")[-1]
+            module = "::".join(above[:-1] if above and not above[-1][0].islower() else above)
+        else:
+            module, text = module_of(found["source"]), texts.get(found["source"]) or source(self.crate.name, found["source"])
+            name = (function_at(text, int(found["line"])) or "").split("::")[-1]
+        # the folder of a function that calls itself begins with a plus
+        name, _, number = name.removeprefix("+").partition(COPY)
+        return module, name, int(number or 0)
 
 
 def are_built(crate):
@@ -462,9 +542,9 @@ def seconds_of(trial, edits):
 
 
 def order_of(trial, edits):
-    """Returns what orders rounds: those of crates over more libraries are earlier, since they can begin late; of a crate the shortest
-    is first, since its others wait for it, and then those that take longest."""
-    return -len(trial.crate.below()), edits is not trial.first, -seconds_of(trial, edits)
+    """Returns what orders rounds: those of crates over more libraries are earlier, since they can begin late; then those that take
+    longest, which prove most of what the others of the crate take."""
+    return -len(trial.crate.below()), -seconds_of(trial, edits)
 
 
 class Marks:
@@ -476,6 +556,14 @@ class Marks:
     def has_all(self, crate):
         """Returns whether the libraries below a crate are proved."""
         return self.folder is None or all((self.folder / it.name).exists() for it in crate.below())
+
+
+def next_of(waiting, busy, marks):
+    """Returns the round to begin next, or none: of a crate whose libraries are proved, and, until those of all are, one of which no
+    other round runs."""
+    ready = [it for it in waiting if marks.has_all(it[0].crate)]
+    apart = [it for it in ready if it[0] not in busy]
+    return next(iter(apart or (ready if len(ready) == len(waiting) else [])), None)
 
 
 def try_all(trials, marks, start):
@@ -493,17 +581,15 @@ def try_all(trials, marks, start):
             print(f"        {trial.crate.name}/{edit.name} is tried again {edit.how()}", flush=True)
         return [(trial, [edit]) for edit in again]
 
-    running = set()
+    running = {}
     with ThreadPoolExecutor(run.processors()) as lanes:
         while waiting or running:
             for task in [it for it in running if it.done()]:
-                running.remove(task)
+                del running[task]
                 waiting.extend(task.result())
-            for task in [it for it in waiting if marks.has_all(it[0].crate)]:
-                if len(running) < run.processors() and task[0].may_begin():
-                    waiting.remove(task)
-                    task[0].is_begun = True
-                    running.add(lanes.submit(try_one, *task))
+            while len(running) < run.processors() and (task := next_of(waiting, running.values(), marks)):
+                waiting.remove(task)
+                running[lanes.submit(try_one, *task)] = task[0]
             time.sleep(1)
 
 

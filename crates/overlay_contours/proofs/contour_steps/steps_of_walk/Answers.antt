@@ -1,7 +1,8 @@
-use Rattle.std.proofs.Common.{◌≡◌, sym, ap, refl, ◌∙◌, ℕ, ◌<◌, get_or, length, List, map}
+use Rattle.std.proofs.Common.{◌≡◌, sym, ap, refl, ◌∙◌, ℕ, ◌<◌, get_or, length, List, map, arith}
 use Rattle.std.specs.Prelude.{Some, option_map, slice_get}
 use Rattle.std.proofs.lemmas.List.{get_or_default, map-append}
 use Rattle.std.proofs.lemmas.Option.{slice_get_read}
+use Rattle.std.proofs.lemmas.Grind.{common_steps}
 use Rattle.overlay_base.specs.Rules.{holds}
 use Rattle.overlay_build.specs.OverlayGraphOf.{links_of}
 use Rattle.overlay_contours.specs.DataContoursOf.{data_step_of, step_along}
@@ -24,3 +25,12 @@ loop-index-preserved g c =
     ∙ ap (map (λ s. Some s)) (map-append (data_step_of whole) c.loop-index.steps.items _)
     ∙ one_more (λ s. Some s) (λ j. option_map (step_along whole rule) (slice_get all j)) (map (data_step_of whole) c.loop-index.steps.items) walk k _ i c.loop-index.invariant c.loop-index-test.true (get_or_default walk k 0 i c.loop-index-test.true)
     (ap (λ p. Some (record { point = p; edge_data = link.edge_data })) c.start_point.ensures ∙ found)
+
+pub offset_bounds-links-index : goal.offset_bounds-links-index
+offset_bounds-links-index g c = grind (arith, common_steps)
+
+pub bounds-links-index : goal.bounds-links-index
+bounds-links-index g c = grind (arith, common_steps)
+
+pub returns-clause-steps : goal.returns-clause-steps
+returns-clause-steps g c = grind (arith, common_steps)

@@ -1,5 +1,5 @@
 use Rattle.std.proofs.Common.{◌≡◌, sym, ap, subst, ◌∙◌, ◌∷◌, [], List, arith}
-use Rattle.std.proofs.lemmas.Grind.{common_steps}
+use Rattle.std.proofs.lemmas.Grind.{common_steps, elements}
 use Rattle.overlay_geometry.specs.PointOf.{point_of}
 use Rattle.overlay_geometry.specs.InRange.{IsPointInRange}
 use Rattle.overlay_contours.specs.ContoursOf.{points_of}
@@ -45,3 +45,6 @@ returns-clause-corners g c =
     last_point (point_of whole) c.in-Some.later.now c.loop-next.next-index (point_of whole c.loop-next.before) (point_of whole c.loop-next.at) (point_of whole c.in-Some.first.now) (points_of whole c.loop-next.corners.items) (points_of whole c.push_corner-2.new.corners.items)
     c.loop-next-test.false c.in_ok-push_corner-2.ensures.corners c.loop-next.invariant.corners
     ∙ sym (ap (λ (l : List _). corners (points_of whole l)) c.in-Some.ensures.cases.0)
+
+pub loop-next-init : goal.loop-next-init
+loop-next-init g c = grind (arith, elements)

@@ -2,6 +2,7 @@ use Rattle.std.proofs.Common.{◌≡◌, refl, sym, subst, List, [], Some, ◌�
 use Rattle.std.specs.Prelude.{ℤ, ◌+ℤ◌, unsigned_abs}
 use Rattle.std.specs.Int.{w128}
 use Rattle.std.proofs.lemmas.Int.{ints, fits_signed_from_abs}
+use Rattle.std.proofs.lemmas.Grind.{common_steps}
 use Rattle.overlay_geometry.specs.InRange.{IsPointInRange}
 use Rattle.overlay_geometry.specs.PointOf.{point_of}
 use Rattle.overlay_contours.proofs.laws.Areas.{in_range_at}
@@ -59,3 +60,12 @@ returns-clause-winding g c =
     (last_step (point_of whole) c.in-Some.later.now c.loop-to.to-index o (point_of whole c.loop-to.from) c.loop-to-test.false) c.in_ok-winding_of_step.ensures.winding)
     refl in
     rw is (subst (λ (l : List _). IsWindingOf (steps_of (points_of whole l)) p (Some (counted +ℤ one))) (sym c.in-Some.ensures.cases.0) done)
+
+pub returns-in_default-clause-winding : goal.returns-in_default-clause-winding
+returns-in_default-clause-winding g c = grind (arith, common_steps)
+
+pub returns-in_err-winding-clause-winding : goal.returns-in_err-winding-clause-winding
+returns-in_err-winding-clause-winding g c = grind (arith, common_steps)
+
+pub returns-in_err-winding_of_step-clause-winding : goal.returns-in_err-winding_of_step-clause-winding
+returns-in_err-winding_of_step-clause-winding g c = grind (arith, common_steps)

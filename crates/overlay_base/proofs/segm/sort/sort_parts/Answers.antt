@@ -1,5 +1,6 @@
-use Rattle.std.proofs.Common.{rules}
+use Rattle.std.proofs.Common.{rules, arith}
 use Rattle.std.proofs.lemmas.List.Sorted.{answers_always, IsPermutation-trans, IsPermutation-put_mid}
+use Rattle.std.proofs.lemmas.Grind.{common_steps}
 use Rattle.overlay_geometry.specs.Points.{pair_cmp}
 use Rattle.overlay_base.specs.SegmentOf.{ends_of}
 use Rattle.overlay_base.proofs.laws.lists.StableSorts.{stable-part}
@@ -25,3 +26,6 @@ loop-place-preserved g c = elim c.if-from-place.branch [
   })
   | else-from-place w ↦ rw w.list-is c.loop-place.invariant
 ]
+
+pub offset_bounds-list-from : goal.offset_bounds-list-from
+offset_bounds-list-from g c = grind (arith, common_steps)

@@ -1,5 +1,6 @@
 use Rattle.std.proofs.lemmas.List.{take_all}
-use Rattle.std.proofs.Common.{refl}
+use Rattle.std.proofs.Common.{refl, arith}
+use Rattle.std.proofs.lemmas.Grind.{common_steps}
 use Rattle.overlay_build.proofs.build.link_filter.filter_by_overlay_into.Goals as goal
 
 pub returns-clause-states : goal.returns-clause-states
@@ -24,3 +25,6 @@ returns-clause-emptied g c = tt
 
 pub returns-then-is_err-clause-emptied : goal.returns-then-is_err-clause-emptied
 returns-then-is_err-clause-emptied g c = c.clear-then-is_err.ensures.items
+
+pub loop-link-preserved : goal.loop-link-preserved
+loop-link-preserved g c = grind (arith, common_steps)

@@ -2,6 +2,7 @@ use Rattle.std.proofs.Common.{◌≡◌, ◌+◌, ◌*◌, ℕ, ◌++◌, ◌∙
 use Rattle.std.specs.Prelude.{ℤ, count_by, IsPermutation, IsSorted, IsTrue}
 use Rattle.std.proofs.lemmas.List.{length-map}
 use Rattle.std.specs.List.{AllByRecursion}
+use Rattle.std.proofs.lemmas.Grind.{common_steps}
 use Rattle.overlay_intersections.specs.MarkOf.{Mark, marks_of}
 use Rattle.overlay_intersections.specs.PlacingOf.{placing_of}
 use Rattle.overlay_grid.specs.ColumnLooks.{twos_in_height}
@@ -110,3 +111,6 @@ mark_in_order-requires-clause-limit g c =
     let as_many = ap (λ (n : ℕ). n * count_by (stands_at x) group) (length-map c.as_slice-ends.result.now whole) in
     let looked = c.in_ok-mark_border.ensures.looked in
     stays_within c.args.limit c.args.looked.now c.mark_border.new.looked (length c.as_slice-ends.result.now * count_by (stands_at x) group) c.requires.limit (c.may_take_border.ensures.within c.if-not-may_take_border.false) (omega (arith, looked, few, as_many))
+
+pub mark_border-requires : goal.mark_border-requires
+mark_border-requires g c = grind (arith, common_steps)

@@ -1,6 +1,7 @@
 use Rattle.std.proofs.Common.{◌≡◌, ◌≤◌, ◌-◌, ◌^◌, ap, sym, subst, ◌∙◌, min, arith, List, Vec, Global}
 use Rattle.std.specs.Prelude.{IsPermutation}
 use Rattle.std.proofs.lemmas.List.Sorted.{IsPermutation-map, IsPermutation-refl}
+use Rattle.std.proofs.lemmas.Grind.{common_steps}
 use Rattle.overlay_grid.specs.ColumnLooks.{do_heights_meet, looks_of_group, twos_in_height}
 use Rattle.overlay_grid.specs.FragmentOf.{fragment_of, fragments_of}
 use Rattle.overlay_grid.specs.declared.split.axis.Axis.TheVariants.{X, Y}
@@ -29,3 +30,9 @@ pub returns-clause-looks : goal.returns-clause-looks
 returns-clause-looks g c =
     let whole = g.I.OverlayInt.whole in
     subst (λ (v : Vec _ Global). looks_of_group Y (fragments_of whole v.items) ≤ twos_in_height (fragments_of whole v.items)) (sym (c.swap.ensures.x_after ∙ c.in_ok-sort_by_keys.ensures.row)) (group_upward _ c.requires.sorted)
+
+pub count_in_group-across-requires : goal.count_in_group-across-requires
+count_in_group-across-requires g c = grind (arith, common_steps)
+
+pub returns-then-across-upward-clause-sorted : goal.returns-then-across-upward-clause-sorted
+returns-then-across-upward-clause-sorted g c = grind (arith, common_steps)

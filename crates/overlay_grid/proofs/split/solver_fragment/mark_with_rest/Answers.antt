@@ -1,4 +1,5 @@
 use Rattle.std.proofs.Common.{◌≡◌, ◌+◌, ◌∙◌, ◌||◌, sym, arith, take, drop}
+use Rattle.std.proofs.lemmas.Grind.{elements}
 use Rattle.overlay_intersections.specs.PlacingOf.{placing_of}
 use Rattle.overlay_intersections.specs.MarkOf.{marks_of}
 use Rattle.overlay_grid.specs.FragmentOf.{fragment_of, fragments_of}
@@ -136,3 +137,6 @@ returns-clause-looked g c =
     let first = fragments-next whole c.args.group.now c.args.first c.index-group-first.result c.requires.first c.index-group-first.is in
     let none = fragments-none whole c.args.group.now c.loop-later.later c.loop-later-test.false in
     (scanned_all (placing_of c.args.placing) c.args.axis (drop c.args.first fs) (fragment_of whole c.index-group-first.result) _ _ _ c.loop-later.rounded _ c.loop-later.looked _ first c.loop-later.invariant none).2
+
+pub mark_found-requires-clause-places : goal.mark_found-requires-clause-places
+mark_found-requires-clause-places g c = grind (arith, elements)

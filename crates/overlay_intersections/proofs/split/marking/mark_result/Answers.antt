@@ -1,4 +1,4 @@
-use Rattle.std.proofs.Common.{[], ◌∷◌}
+use Rattle.std.proofs.Common.{[], ◌∷◌, refl}
 use Rattle.overlay_geometry.specs.PairOf.{pair_of}
 use Rattle.overlay_geometry.specs.PointOf.{point_of}
 use Rattle.overlay_intersections.specs.MarkOf.{marks_of}
@@ -22,3 +22,6 @@ returns-in_ok-mark-in-OtherEnd-clause-marks g c = rw (c.in-OtherEnd.is, marks_of
 
 pub returns-in_ok-mark_overlap-in-Overlay-clause-marks : goal.returns-in_ok-mark_overlap-in-Overlay-clause-marks
 returns-in_ok-mark_overlap-in-Overlay-clause-marks g c = rw (c.in-Overlay.is, marks_of_overlay c.args.first.index (pair_of g.I.OverlayInt.whole c.args.first.x_segment) c.args.second.index (pair_of g.I.OverlayInt.whole c.args.second.x_segment) (point_of g.I.OverlayInt.whole c.args.met.point) c.args.met.is_round) c.in_ok-mark_overlap-in-Overlay.ensures
+
+pub returns-in_ok-mark_overlap-in-Overlay-clause-rounded : goal.returns-in_ok-mark_overlap-in-Overlay-clause-rounded
+returns-in_ok-mark_overlap-in-Overlay-clause-rounded g c = refl

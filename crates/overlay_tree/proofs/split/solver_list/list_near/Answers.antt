@@ -1,5 +1,5 @@
 use Rattle.std.proofs.Common.{◌≡◌, ◌+◌, ◌<◌, ◌∙◌, sym, ap, subst, arith, take, length, ℕ}
-use Rattle.std.proofs.lemmas.Grind.{common_steps}
+use Rattle.std.proofs.lemmas.Grind.{common_steps, elements}
 use Rattle.std.specs.Prelude.{◌≤ℤ◌, ◌<ℤ◌}
 use Rattle.overlay_geometry.specs.PairOf.{pair_of}
 use Rattle.overlay_geometry.proofs.laws.integers.Tests.{lt-tested, lt-tested_false}
@@ -72,3 +72,12 @@ returns-clause-listed g c =
 
 pub returns-clause-past : goal.returns-clause-past
 returns-clause-past g c = grind (arith, common_steps)
+
+pub offset_bounds-ranges-later : goal.offset_bounds-ranges-later
+offset_bounds-ranges-later g c = grind (arith, common_steps)
+
+pub offset_bounds-ranges-index : goal.offset_bounds-ranges-index
+offset_bounds-ranges-index g c = grind (arith, elements)
+
+pub bounds-ranges-index : goal.bounds-ranges-index
+bounds-ranges-index g c = grind (arith, elements)

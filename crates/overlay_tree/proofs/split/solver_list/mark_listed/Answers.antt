@@ -42,3 +42,12 @@ returns-clause-rounded g c = rw (take_all c.loop-later.later-index c.args.met.no
 
 pub mark_two-requires-clause-first : goal.mark_two-requires-clause-first
 mark_two-requires-clause-first g c = grind (arith, common_steps)
+
+pub mark_two-requires-clause-after : goal.mark_two-requires-clause-after
+mark_two-requires-clause-after g c = grind (arith, common_steps)
+
+pub mark_two-requires-clause-within : goal.mark_two-requires-clause-within
+mark_two-requires-clause-within g c = grind (arith, common_steps)
+
+pub returns-in_err-rounded-clause-rounded : goal.returns-in_err-rounded-clause-rounded
+returns-in_err-rounded-clause-rounded g c = grind (arith, common_steps)

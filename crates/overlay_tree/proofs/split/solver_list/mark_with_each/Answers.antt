@@ -1,5 +1,6 @@
 use Rattle.std.proofs.Common.{◌≡◌, ◌<◌, arith, take, length, Bool}
 use Rattle.std.proofs.lemmas.Result.{on_ok_weaker, IfOk-weaker}
+use Rattle.std.proofs.lemmas.Grind.{common_steps}
 use Rattle.overlay_base.specs.Segments.{pairs}
 use Rattle.overlay_base.specs.SegmentOf.{segments_of}
 use Rattle.overlay_intersections.specs.MarkOf.{marks_of}
@@ -52,3 +53,15 @@ returns-clause-rounded g c =
     let done : c.loop-later.later ≡ c.args.end = omega (arith, last, past) in
     let listed = rw done at c.loop-later.invariant.listed in
     IfOk-weaker c.mark_listed.result _ _ (λ (rounded : Bool). listed_crosses c.args.index ps rounded c.args.from c.args.end (take c.loop-later.count c.loop-later.met) listed) c.mark_listed.ensures.rounded
+
+pub offset_bounds-ranges-index : goal.offset_bounds-ranges-index
+offset_bounds-ranges-index g c = grind (arith, common_steps)
+
+pub bounds-ranges-index : goal.bounds-ranges-index
+bounds-ranges-index g c = grind (arith, common_steps)
+
+pub offset_bounds-ranges-later : goal.offset_bounds-ranges-later
+offset_bounds-ranges-later g c = grind (arith, common_steps)
+
+pub bounds-ranges-later : goal.bounds-ranges-later
+bounds-ranges-later g c = grind (arith, common_steps)

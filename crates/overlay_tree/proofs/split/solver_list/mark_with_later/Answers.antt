@@ -1,4 +1,5 @@
 use Rattle.std.proofs.Common.{◌≡◌, ◌+◌, ◌-◌, ◌^◌, ◌<◌, arith, drop, length, take, count_by, min, ℕ}
+use Rattle.std.proofs.lemmas.Grind.{common_steps}
 use Rattle.overlay_base.specs.Segments.{pairs}
 use Rattle.overlay_base.specs.SegmentOf.{segments_of}
 use Rattle.overlay_base.proofs.laws.geometry.Apart.{are_ordered}
@@ -72,3 +73,6 @@ returns-clause-looked g c = counted c.args.looked.now _ c.args.index c.if-near_e
   where
     counted : (old w i end new most : ℕ) → new ≡ min (old + (end - i - 1)) most → i + 1 + w ≡ end → new ≡ min (old + w) most
     counted old w i end new most e told = omega arith
+
+pub mark_by_blocks-requires-clause-within : goal.mark_by_blocks-requires-clause-within
+mark_by_blocks-requires-clause-within g c = grind (arith, common_steps)

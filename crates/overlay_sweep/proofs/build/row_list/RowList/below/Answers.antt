@@ -1,6 +1,7 @@
 use Rattle.std.proofs.Common.{◌≡◌, ◌∙◌, ◌≤◌, ◌<◌, ap, sym, arith, inl, inr, length}
 use Rattle.std.specs.Prelude.{◌+◌, ◌-◌, map, take}
 use Rattle.std.proofs.lemmas.List.{length-map}
+use Rattle.std.proofs.lemmas.Grind.{common_steps}
 use Rattle.overlay_sweep.specs.EntryOf.{entry_of}
 use Rattle.overlay_sweep.specs.LiveOf.{row_sums, rows_in}
 use Rattle.overlay_sweep.specs.ScanTrees.{joined, row_at, index_in, segment_at}
@@ -75,3 +76,9 @@ index-requires g c = elim c.requires.index [ inl none ↦ absurd (omega (arith, 
 
 pub index-requires-2 : goal.index-requires-2
 index-requires-2 g c = elim c.requires.index [ inl none ↦ absurd (c.if-row-eq0.false none.1) | inr is ↦ omega (arith, is.0, length-map c.args.self.now.rows.items (λ r. row_sums r)) ]
+
+pub offset_bounds-entries-at : goal.offset_bounds-entries-at
+offset_bounds-entries-at g c = grind (arith, common_steps)
+
+pub bounds-entries-at : goal.bounds-entries-at
+bounds-entries-at g c = grind (arith, common_steps)

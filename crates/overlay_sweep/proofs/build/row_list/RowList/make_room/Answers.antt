@@ -1,6 +1,7 @@
 use Rattle.std.proofs.Common.{◌≡◌, ◌∙◌, ◌≤◌, ◌/◌, ap, sym, subst, arith, inr, add-one, length}
 use Rattle.std.specs.Prelude.{◌+◌, ◌-◌, take, drop}
 use Rattle.std.proofs.lemmas.List.{length-map, length-take, length-drop, take-append-drop}
+use Rattle.std.proofs.lemmas.Grind.{common_steps}
 use Rattle.overlay_sweep.specs.EntryOf.{entry_of}
 use Rattle.overlay_sweep.specs.LiveOf.{row_sums, rows_in}
 use Rattle.overlay_sweep.specs.ScanTrees.{joined, row_at, index_in}
@@ -185,3 +186,27 @@ returns-else-at-half-clause-row g c =
     let cut = rows_cut (λ r. row_sums r) items c.insert.new.self.items row half c.index_mut.result.now c.split_off.new.self c.in_ok-upper.upper (omega (arith, i.0, many)) c.index_mut.ensures.value c.in_ok-upper.ensures.lower c.in_ok-upper.ensures.upper c.in_ok-insert.ensures.items in
     let longer = ap (λ l. length l) cut ∙ cut_length old row _ _ i.0 in
     omega (arith, longer, i.0)
+
+pub returns-then-len-eq0-clause-same : goal.returns-then-len-eq0-clause-same
+returns-then-len-eq0-clause-same g c = grind (arith, common_steps)
+
+pub returns-then-len-eq0-clause-some : goal.returns-then-len-eq0-clause-some
+returns-then-len-eq0-clause-some g c = grind (arith, common_steps)
+
+pub returns-then-len-eq0-clause-row : goal.returns-then-len-eq0-clause-row
+returns-then-len-eq0-clause-row g c = grind (arith, common_steps)
+
+pub returns-then-len-eq0-clause-at : goal.returns-then-len-eq0-clause-at
+returns-then-len-eq0-clause-at g c = grind (arith, common_steps)
+
+pub returns-then-len-eq0-clause-index : goal.returns-then-len-eq0-clause-index
+returns-then-len-eq0-clause-index g c = grind (arith, common_steps)
+
+pub split_off-requires : goal.split_off-requires
+split_off-requires g c = grind (arith, common_steps)
+
+pub overflow_add-row : goal.overflow_add-row
+overflow_add-row g c = grind (arith, common_steps)
+
+pub overflow_add-result : goal.overflow_add-result
+overflow_add-result g c = grind (arith, common_steps)

@@ -2,6 +2,7 @@ use Rattle.std.proofs.Common.{◌≡◌, ◌∙◌, ap, sym, subst, arith, inr, 
 use Rattle.std.specs.Prelude.{suc, ◌+◌, ◌<◌, ◌≤◌, map, slice_set}
 use Rattle.std.proofs.lemmas.List.{length-map, map-set, length-set, get_or-set_same}
 use Rattle.std.proofs.lemmas.Result.{IfOk-from_err}
+use Rattle.std.proofs.lemmas.Grind.{common_steps}
 use Rattle.overlay_sweep.specs.EntryOf.{entry_of}
 use Rattle.overlay_sweep.specs.LiveOf.{row_sums, rows_in}
 use Rattle.overlay_sweep.specs.ScanTrees.{joined, row_at, index_in, HaveSome, IsIndexIn, lasts_past}
@@ -109,3 +110,9 @@ returns-in_err-put-clause-behind g c = IfOk-from_err c.from_residual-in_err-put.
 
 pub index_mut-requires : goal.index_mut-requires
 index_mut-requires g c = omega (arith, c.in_ok-room.ensures.row, length-map c.make_room.new.self.rows.items (λ r. row_sums r))
+
+pub put-requires : goal.put-requires
+put-requires g c = grind (arith, common_steps)
+
+pub overflow_add-result : goal.overflow_add-result
+overflow_add-result g c = grind (arith, common_steps)

@@ -1,6 +1,7 @@
 use Rattle.std.proofs.Common.{◌≡◌, ◌∙◌, ap, sym, subst, arith, length, rules}
 use Rattle.std.specs.Prelude.{◌*◌, ◌^◌, ◌<◌, ◌≤◌, ◌⊎◌, map, slice_set}
 use Rattle.std.proofs.lemmas.List.{length-map, map-set}
+use Rattle.std.proofs.lemmas.Grind.{common_steps}
 use Rattle.overlay_sweep.specs.EntryOf.{entry_of}
 use Rattle.overlay_sweep.specs.LiveOf.{row_sums, rows_in}
 use Rattle.overlay_sweep.specs.LivePositions.{IsLivePosition}
@@ -49,3 +50,15 @@ returns-clause-few g c =
 
 pub search-at-requires-clause-end : goal.search-at-requires-clause-end
 search-at-requires-clause-end g c = search rules
+
+pub index_mut-only-requires : goal.index_mut-only-requires
+index_mut-only-requires g c = grind (arith, common_steps)
+
+pub returns-clause-one : goal.returns-clause-one
+returns-clause-one g c = grind (arith, common_steps)
+
+pub returns-clause-some : goal.returns-clause-some
+returns-clause-some g c = grind (arith, common_steps)
+
+pub returns-clause-index : goal.returns-clause-index
+returns-clause-index g c = grind (arith, common_steps)
