@@ -7,8 +7,9 @@
 of a crate are tried together, and where two change one function, the second changes a copy of it beside it. An edit whose goal is
 not seen there is tried again by itself, and so is an edit of a constant. The other functions of the crate are taken by their
 contracts: each has a hole in place of its proof, which `rt ci` checks, and none of its body, but not where an edit is tried over all
-proofs. The libraries below a crate are those that `rt ci` or `rt check` left. With `--edits` the edits are FOLDER/CRATE/*.edit. With `--proved` the edits of a crate wait until the folder
-has a file of the name of each library below it: so the gate tries edits while it proves.
+proofs. The libraries below a crate are those that `rt ci` or `rt check` left. With `--edits` the edits are FOLDER/CRATE/*.edit. With
+`--proved` the edits of a crate wait until the folder has a file of the name of each library below it: so the gate tries edits while
+it proves.
 
 Prints the first open goal for each edit, and last `N of M edits refused`. An edit is refused by a goal of a function that it changes
 and that one of its lines `# refused by FUNCTION: CLAUSE, ..` names. Where that function has proofs in `Answers.antt`,
@@ -334,14 +335,16 @@ class Trial:
         self.rounds = rounds_of(edits, self.can_copy)
 
     def can_copy(self, edit):
-        """Returns whether an edit can change a copy of a function: it changes only one, of no trait, which has a proof of its own."""
+        """Returns whether an edit can change a copy of a function: it changes only one, which is of no trait and has a proof and a name of
+        its own, and not one for C."""
         places = [place for path in edit.paths for place in self.places.get(path, ())]
         if not edit.is_by_answers or len(edit.paths) != 1 or len(places) != 1 or self.others.get(*edit.paths) != {*edit.paths}:
             return False
         file, at = places[0]
         lines = source(self.crate.name, file).split("\n")
         first, last = block_of(lines, at)
-        return not is_of_trait(lines, at) and all(it == file and first <= number <= last for it, number in edit.lines)
+        has_own_name = not is_of_trait(lines, at) and "extern" not in lines[at]
+        return has_own_name and all(it == file and first <= number <= last for it, number in edit.lines)
 
     def try_round(self, edits):
         """Tries some edits together, and returns the seconds of a processor that this took."""
