@@ -335,8 +335,8 @@ class Trial:
         self.rounds = rounds_of(edits, self.can_copy)
 
     def can_copy(self, edit):
-        """Returns whether an edit can change a copy of a function: it changes only one, which is of no trait and has a proof and a name of
-        its own, and not one for C."""
+        """Returns whether an edit can change a copy of a function: it changes only one, which has a proof of its own, and is neither of a
+        trait nor for C."""
         places = [place for path in edit.paths for place in self.places.get(path, ())]
         if not edit.is_by_answers or len(edit.paths) != 1 or len(places) != 1 or self.others.get(*edit.paths) != {*edit.paths}:
             return False
