@@ -27,6 +27,7 @@ import shutil
 import subprocess
 import sys
 import tempfile
+import threading
 import time
 from concurrent.futures import ThreadPoolExecutor
 
@@ -325,8 +326,8 @@ class Trial:
 
     def __init__(self, rtlib, crate, edits):
         self.rtlib, self.crate = rtlib, crate
-        # the folder of what its rounds proved so far
-        self.kept = None
+        # the folder of what its rounds proved so far, which one of them reads or writes at a time
+        self.kept, self.keeping = None, threading.Lock()
         # the proofs that can have a hole, each with its functions, and where these begin
         self.others, self.places = {}, {}
         for path, proof, place in functions_of(crate):
@@ -387,8 +388,9 @@ class Trial:
                 if edit.is_by_answers and not edit.number:
                     self.search_nothing(edit, room)
             self.add_copies([edit for edit in edits if edit.number], room, texts)
-            if self.kept:
-                shutil.copytree(self.kept.name, f"{room}/kept", copy_function=link_or_copy)
+            with self.keeping:
+                if self.kept:
+                    shutil.copytree(self.kept.name, f"{room}/kept", copy_function=link_or_copy)
             os.makedirs(f"{room}/kept", exist_ok=True)
             said, took = self.check(room, {edit.tried(path): module for edit in edits for path, module in edit.paths.items()})
             if not self.unread_in(said):
@@ -397,9 +399,10 @@ class Trial:
 
     def keep(self, folder):
         """Keeps what a round proved, for later rounds: the prover takes of it what fits."""
-        self.kept = self.kept or tempfile.TemporaryDirectory(prefix="must-fail-kept-")
         copy = lambda one, other: os.path.exists(other) or link_or_copy(one, other)
-        shutil.copytree(folder, self.kept.name, dirs_exist_ok=True, copy_function=copy)
+        with self.keeping:
+            self.kept = self.kept or tempfile.TemporaryDirectory(prefix="must-fail-kept-")
+            shutil.copytree(folder, self.kept.name, dirs_exist_ok=True, copy_function=copy)
 
     def put_holes(self, changed, room):
         """Puts a hole in place of each proof of functions that no edit changes, and no body in place of theirs."""
@@ -563,10 +566,11 @@ class Marks:
 
 def next_of(waiting, busy, marks):
     """Returns the round to begin next, or none: of a crate whose libraries are proved, and, until those of all are, one of which no
-    other round runs."""
+    other round runs. Only where few run, as at first, is it one more of the same crate."""
     ready = [it for it in waiting if marks.has_all(it[0].crate)]
     apart = [it for it in ready if it[0] not in busy]
-    return next(iter(apart or (ready if len(ready) == len(waiting) else [])), None)
+    is_more = len(ready) == len(waiting) or len(busy) < run.processors() // 2
+    return next(iter(apart or (ready if is_more else [])), None)
 
 
 def try_all(trials, marks, start):

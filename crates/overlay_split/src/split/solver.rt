@@ -10,7 +10,7 @@ ghost use Rattle.overlay_base.specs.EdgeData.{IsMadeFrom, IsRefusedJoin};
 ghost use Rattle.overlay_base.specs.HooksOf.{hooks_of};
 ghost use Rattle.overlay_base.specs.SegmentOf.{segments_of, data_segments_of};
 ghost use Rattle.overlay_base.specs.Radius.{exponent_of, squared_radius};
-ghost use Rattle.overlay_intersections.specs.Marks.{snapping};
+ghost use Rattle.overlay_intersections.specs.Marks.{snapping, settling};
 ghost use Rattle.overlay_split.specs.Pass.{cut, pass};
 ghost use Rattle.overlay_intersections.specs.PassMarks.{is_rounded, mark_count};
 ghost use Rattle.overlay_split.specs.DataPass.{data_cut, data_pass};
@@ -419,11 +419,8 @@ impl<I: OverlayInt> SplitSolver<I> {
         };
         let mut changed = None;
         let mut radius = solver.snap_radius();
-        for _ in 0..self.snap_limit {
-            if !progress.goes_on {
-                break;
-            }
-            let placing = snapping::<I>(&radius);
+        while progress.goes_on {
+            let placing = placing_after::<I>(progress.passes, self.snap_limit, &radius);
             progress = progress.after_pass(
                 list,
                 placing,
@@ -434,18 +431,6 @@ impl<I: OverlayInt> SplitSolver<I> {
                 limit,
             )?;
             radius.increment();
-        }
-        while progress.goes_on {
-            let placing = Placing::Settling;
-            progress = progress.after_pass(
-                list,
-                placing,
-                &mut finder,
-                &mut self.buffers,
-                &mut changed,
-                store,
-                limit,
-            )?;
         }
         self.passes = progress.passes;
         self.reach = progress.reach;
@@ -522,11 +507,16 @@ impl Progress {
     }
 }
 
-/// Crossings are placed within this radius.
-fn snapping<I: OverlayInt>(radius: &SnapRadius) -> Placing
-    ensures placing { placing_of result ≡ snapping (squared_radius I.BITS (exponent_of radius.now)) }
+/// How the pass after so many others places crossings: up to the snap limit it snaps within the radius, and then it settles.
+fn placing_after<I: OverlayInt>(passes: u128, snap_limit: u32, radius: &SnapRadius) -> Placing
+    ensures snaps { passes < snap_limit
+        → placing_of result ≡ snapping (squared_radius I.BITS (exponent_of radius.now)) }
+    ensures settles { snap_limit ≤ passes → placing_of result ≡ settling }
     ensures radius { HasRadius result }
 {
+    if passes >= snap_limit as u128 {
+        return Placing::Settling;
+    }
     Placing::Snapping {
         radius_squared: radius.radius_squared::<I>(),
     }

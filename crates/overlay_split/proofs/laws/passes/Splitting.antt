@@ -26,6 +26,7 @@ use Rattle.overlay_split.specs.ExactInput.{is_exact_input, KeepsCounts}
 use Rattle.overlay_split.specs.Nearness.{StaysNear}
 use Rattle.overlay_split.specs.Places.{KeepsWinding}
 use Rattle.overlay_split.specs.Potential.{spread, potential}
+use Rattle.overlay_split.specs.Nearness.{reach_of_pass}
 use Rattle.overlay_geometry.proofs.laws.geometry.Coordinates.{difference_bound, pair_parts, point_parts}
 use Rattle.overlay_base.proofs.laws.joins.Maps.{is_map-join}
 use Rattle.overlay_base.proofs.laws.joins.Rests.{is_splittable-parts}
@@ -35,6 +36,7 @@ use Rattle.overlay_split.proofs.laws.paths.Balances.{run_keeps_balance}
 use Rattle.overlay_split.proofs.laws.planar.ExactInputs.{exact_input_keeps_counts}
 use Rattle.overlay_split.proofs.laws.paths.Boxes.{stays_in_box}
 use Rattle.overlay_split.proofs.laws.nearness.Coverings.{run_stays_near}
+use Rattle.overlay_split.proofs.laws.nearness.Nearness.{reach_of_pass-bounded}
 use Rattle.overlay_split.proofs.laws.nearness.Places.{run_keeps_winding}
 use Rattle.overlay_split.proofs.laws.paths.Potentials.{settling_lowers}
 use Rattle.overlay_split.proofs.laws.planar.PlanarRuns.{run_is_planar, run_is_one}
@@ -220,18 +222,20 @@ snaps settings k current h e =
     ∙ ap (λ (i : ℕ). snapping (2 ^ min (settings.start + i * settings.progression) settings.cap)) one
     ∙ ap (λ (i : ℕ). snapping (2 ^ i)) (sym e))
 
--- the same of a radius that has grown with a counter
-pub snaps_at : (settings : Settings) (placing : Placing) (k counter current most : ℕ) → k ≡ counter → counter < settings.limit → settings.cap ≤ most → current ≡ min (settings.start + counter * settings.progression) most →
-    placing ≡ snapping (2 ^ min current settings.cap) → placing ≡ placing_of_pass settings (suc k)
-snaps_at settings placing k counter current most m h l e p =
-    p ∙ snaps settings k current (omega (arith, h, m)) (capped (settings.start + counter * settings.progression) most current settings.cap e l ∙ ap (λ (i : ℕ). min (settings.start + i * settings.progression) settings.cap) (sym m))
-
-pub settles : (settings : Settings) (k : ℕ) → settings.limit ≤ k → settling ≡ placing_of_pass settings (suc k)
+settles : (settings : Settings) (k : ℕ) → settings.limit ≤ k → settling ≡ placing_of_pass settings (suc k)
 unfolding placing_of_pass
 settles settings k h = sym (cond-false (nat_le (suc k) settings.limit) (snapping (radius_of_pass settings (suc k))) settling (lt-leb (suc k) settings.limit (omega (arith, h))))
 
-pub exponent_grows : (a i p most e next step : ℕ) → e ≡ min (a + i * p) most → step ≡ p → next ≡ min (e + step) most → next ≡ min (a + (i + 1) * p) most
-exponent_grows a i p most e next step h k l = let m : (i + 1) * p ≡ i * p + p = omega arith in omega (arith, h, k, l, m)
+-- a pass that snaps within a radius that has grown with the passes, up to the limit, and settles after it, is placed as that of the run
+pub placed_as : (settings : Settings) (placing : Placing) (limit k current most : ℕ) → limit ≡ settings.limit → settings.cap ≤ most → current ≡ min (settings.start + k * settings.progression) most →
+    (k < limit → placing ≡ snapping (2 ^ min current settings.cap)) → (limit ≤ k → placing ≡ settling) → placing ≡ placing_of_pass settings (suc k)
+placed_as settings placing limit k current most same l e early late =
+    ⊎_elim (λ (h : k < limit). early h ∙ snaps settings k current (omega (arith, h, same)) (capped (settings.start + k * settings.progression) most current settings.cap e l))
+    (λ (h : limit ≤ k). late h ∙ settles settings k (omega (arith, h, same)))
+    (cases_lt k limit)
+
+pub exponent_grows : (a i n p most e next step : ℕ) → n ≡ i + 1 → e ≡ min (a + i * p) most → step ≡ p → next ≡ min (e + step) most → next ≡ min (a + n * p) most
+exponent_grows a i n p most e next step one h k l = let m : n * p ≡ i * p + p = ap (λ (j : ℕ). j * p) one ∙ omega arith in omega (arith, h, k, l, m)
 
 -- ---- segments of a list
 
@@ -271,15 +275,39 @@ pub falls_from : (now next : List WholeSegment) (was goes : Bool) → was ≡ tr
 falls_from now next true goes t map e g = falls now next goes map e g
 falls_from now next false goes t map e g = absurd (both_ways false refl t)
 
--- so there is room for a number that each pass raises by at most one
-pub keeps_room : (now next : List WholeSegment) (goes : Bool) (k n most : ℕ) → IsTrue (is_map now) → next ≡ pass settling now → goes ≡ (nat_le 2 (length next) && is_rounded now) → goes ≡ true → n ≤ k + 1 → k + potential now < most → n + potential next < most
-keeps_room now next goes k n most map e g t m r =
-    let f = falls now next goes map e g in
-    let one = ap (λ (b : Bool). from_bool b) t in
-    omega (arith, f, one, m, r)
+at_most_one : (b : Bool) → from_bool b ≤ 1
+at_most_one true = omega arith
+at_most_one false = omega arith
+
+-- each pass brings the end nearer: up to the limit by their number, and after it by the potential
+pub nears_end : (limit k n : ℕ) (now next : List WholeSegment) (was goes : Bool) (placing : Placing) → was ≡ true → IsTrue (is_map now) → next ≡ pass placing now → goes ≡ (nat_le 2 (length next) && is_rounded now) →
+    n ≡ k + 1 → (limit ≤ k → placing ≡ settling) → potential next < 2 ^ 100 → (limit - n) * 2 ^ 127 + potential next + from_bool goes < (limit - k) * 2 ^ 127 + potential now + from_bool was
+nears_end limit k n now next was goes placing w map e g one late few =
+    let more = at_most_one goes in
+    ⊎_elim (λ (h : k < limit). omega (arith, h, one, few, more))
+    (λ (h : limit ≤ k). let f = falls_from now next was goes w map (e ∙ ap (λ (q : Placing). pass q now) (late h)) g in omega (arith, h, one, f))
+    (cases_lt k limit)
+
+-- up to the limit passes reach at most so far
+pub reaches_early : (limit k n before after : ℕ) → n ≡ k + 1 → (k ≤ limit → before ≤ k * 2 ^ 34) → after ≤ before + 2 ^ 34 → n ≤ limit → after ≤ n * 2 ^ 34
+reaches_early limit k n before after one early more h = let b = early (omega (arith, one, h)) in omega (arith, one, b, more)
+
+-- so there is room for the number of passes and for how far they reach: after the limit each raises both by at most one
+pub keeps_room : (limit k n before after : ℕ) (now next : List WholeSegment) (goes : Bool) (placing : Placing) → IsTrue (is_map now) → next ≡ pass placing now → goes ≡ (nat_le 2 (length next) && is_rounded now) → goes ≡ true →
+    n ≡ k + 1 → (limit ≤ k → placing ≡ settling) → limit < 2 ^ 32 → (n ≤ limit → after ≤ n * 2 ^ 34) → after ≡ before + reach_of_pass placing now → potential next < 2 ^ 100 →
+    k + before + 2 * potential now < 2 ^ 127 → n + after + 2 * potential next < 2 ^ 127
+keeps_room limit k n before after now next goes placing map e g t one late small early far few room =
+    ⊎_elim (λ (h : k < limit). let a = early (omega (arith, h, one)) in omega (arith, h, one, small, a, few))
+    (λ (h : limit ≤ k).
+    let f = falls now next goes map (e ∙ ap (λ (q : Placing). pass q now) (late h)) g in
+    let goes_one = ap (λ (b : Bool). from_bool b) t in
+    let there : after ≡ before + reach_of_pass settling now = far ∙ ap (λ (q : Placing). before + reach_of_pass q now) (late h) in
+    let most = reach_of_pass-bounded settling now in
+    omega (arith, f, goes_one, one, there, most, room))
+    (cases_lt k limit)
 
 -- a spread is at most two differences of coordinates
-pub potential_bound : (least greatest : ℤ) (segments : List WholeSegment) → least_coordinate ≤ℤ least → greatest ≤ℤ greatest_coordinate → IsTrue (is_splittable least greatest segments) → potential segments ≤ length segments * (2 * greatest_difference)
+potential_bound : (least greatest : ℤ) (segments : List WholeSegment) → least_coordinate ≤ℤ least → greatest ≤ℤ greatest_coordinate → IsTrue (is_splittable least greatest segments) → potential segments ≤ length segments * (2 * greatest_difference)
 unfolding potential
 potential_bound least greatest [] lo hi h = omega arith
 potential_bound least greatest (s ∷ segments) lo hi h =
@@ -294,7 +322,10 @@ potential_bound least greatest (s ∷ segments) lo hi h =
     sums : (p q r n : ℕ) → p ≡ q + r → q ≤ 2 * greatest_difference → r ≤ n * (2 * greatest_difference) → p ≤ suc n * (2 * greatest_difference)
     sums p q r n e h k = omega (arith, e, h, k)
 
-pub few_enough : {C I D : Type 0} {m : _} {w : _} {o : _} {e : _} {p : _} (xs : List (Segment C I D m w o e p)) (k : ℕ) → potential (segments_of xs) ≤ length (segments_of xs) * (2 * greatest_difference) → length xs < 2 ^ 64 → k < 2 ^ 100 → k + potential (segments_of xs) < 2 ^ 127
-few_enough xs k h l n =
+-- so that of a list, which is in range, is small
+pub potential_small : {C I D : Type 0} {m : _} {w : _} {o : _} {e : _} {p : _} (least greatest : ℤ) (xs : List (Segment C I D m w o e p)) → least_coordinate ≤ℤ least → greatest ≤ℤ greatest_coordinate → IsTrue (is_splittable least greatest (segments_of xs)) →
+    length xs < 2 ^ 64 → potential (segments_of xs) < 2 ^ 100
+potential_small least greatest xs lo hi h l =
     let same = length-map xs (λ s. segment_of s) in
-    omega (arith, h, l, n, same)
+    let few = potential_bound least greatest (segments_of xs) lo hi h in
+    omega (arith, few, l, same)

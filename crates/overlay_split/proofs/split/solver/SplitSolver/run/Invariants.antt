@@ -13,39 +13,19 @@ use Rattle.overlay_split.specs.steps.ChangedBoxes.{BoundChange}
 use Rattle.overlay_split.specs.steps.IsAt.{IsAt}
 use Rattle.overlay_split.proofs.split.solver.SplitSolver.run.Given as goal
 
--- each pass so far has snapped
-abbrev pub invariant-loop : goal.invariant-loop
-invariant-loop g l = record {
-  at : IsAt (hooks_of g.C.WindingCount.counted g.D.OverlayEdgeData) (settings_of g.I.OverlayInt.BITS l.solver l.fn.self)
-      (g.I.OverlayInt.whole g.I.OverlayInt.MIN_COORD) (g.I.OverlayInt.whole g.I.OverlayInt.MAX_COORD) (segments_of l.fn.list.items) (segments_of l.list.items) (data_segments_of l.fn.list.items) (data_segments_of l.list.items)
-      l.fn.store l.store l.progress.passes l.progress.has_changed l.progress.goes_on;
-  made : l.progress.passes ≡ l.counter;
-  exponent : exponent_of l.radius ≡ min (l.solver.precision.start + l.counter * l.solver.precision.progression) (2 ^ 64 - 1);
-  step : step_of l.radius ≡ l.solver.precision.progression;
-  limit : l.self.snap_limit ≡ l.fn.self.snap_limit;
-  passes : l.self.passes ≡ l.fn.self.passes;
-  reach : l.progress.reach ≡ reach_of_run (settings_of g.I.OverlayInt.BITS l.solver l.fn.self) (segments_of l.fn.list.items) l.progress.passes;
-  reach_room : l.progress.reach ≤ l.counter * 2 ^ 34;
-  reach_before : l.self.reach ≡ l.fn.self.reach;
-  looks : AreRunLooks l.solver.strategy (settings_of g.I.OverlayInt.BITS l.solver l.fn.self) (segments_of l.fn.list.items) (grid_in l.finder.grid) l.progress.passes l.finder.looked;
-  within : JoinsAtMost (settings_of g.I.OverlayInt.BITS l.solver l.fn.self) (segments_of l.fn.list.items) l.limit l.progress.passes;
-  solver : l.finder.solver ≡ l.solver;
-  looked_before : l.self.looked ≡ l.fn.self.looked;
-  changed : BoundChange g.I.OverlayInt.whole l.changed (segments_of l.list.items);
-}
-
--- if a pass follows, it settles
+-- up to the limit a pass adds a bounded reach, and after it lowers the potential, so that there is room for both
 abbrev pub invariant-loop-progress : goal.invariant-loop-progress
 invariant-loop-progress g l = record {
   at : IsAt (hooks_of g.C.WindingCount.counted g.D.OverlayEdgeData) (settings_of g.I.OverlayInt.BITS l.solver l.fn.self)
       (g.I.OverlayInt.whole g.I.OverlayInt.MIN_COORD) (g.I.OverlayInt.whole g.I.OverlayInt.MAX_COORD) (segments_of l.fn.list.items) (segments_of l.list.items) (data_segments_of l.fn.list.items) (data_segments_of l.list.items)
       l.fn.store l.store l.progress.passes l.progress.has_changed l.progress.goes_on;
-  late : l.progress.goes_on ≡ true → l.fn.self.snap_limit ≤ l.progress.passes;
-  room : l.progress.goes_on ≡ true → l.progress.passes + potential (segments_of l.list.items) < 2 ^ 127;
+  exponent : exponent_of l.radius ≡ min (l.solver.precision.start + l.progress.passes * l.solver.precision.progression) (2 ^ 64 - 1);
+  step : step_of l.radius ≡ l.solver.precision.progression;
   limit : l.self.snap_limit ≡ l.fn.self.snap_limit;
   passes : l.self.passes ≡ l.fn.self.passes;
   reach : l.progress.reach ≡ reach_of_run (settings_of g.I.OverlayInt.BITS l.solver l.fn.self) (segments_of l.fn.list.items) l.progress.passes;
-  reach_room : l.progress.goes_on ≡ true → l.progress.reach + potential (segments_of l.list.items) < 2 ^ 127;
+  early : l.progress.passes ≤ l.self.snap_limit → l.progress.reach ≤ l.progress.passes * 2 ^ 34;
+  room : l.progress.goes_on ≡ true → l.progress.passes + l.progress.reach + 2 * potential (segments_of l.list.items) < 2 ^ 127;
   reach_before : l.self.reach ≡ l.fn.self.reach;
   looks : AreRunLooks l.solver.strategy (settings_of g.I.OverlayInt.BITS l.solver l.fn.self) (segments_of l.fn.list.items) (grid_in l.finder.grid) l.progress.passes l.finder.looked;
   within : JoinsAtMost (settings_of g.I.OverlayInt.BITS l.solver l.fn.self) (segments_of l.fn.list.items) l.limit l.progress.passes;
@@ -55,4 +35,4 @@ invariant-loop-progress g l = record {
 }
 
 abbrev pub decreases-loop-progress : goal.decreases-loop-progress
-decreases-loop-progress g l = potential (segments_of l.list.items) + from_bool l.progress.goes_on
+decreases-loop-progress g l = (l.self.snap_limit - l.progress.passes) * 2 ^ 127 + potential (segments_of l.list.items) + from_bool l.progress.goes_on

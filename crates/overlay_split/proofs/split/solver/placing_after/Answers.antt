@@ -3,13 +3,13 @@ use Rattle.std.proofs.lemmas.Int.{ints}
 use Rattle.std.proofs.lemmas.Nat.{pow_pos}
 use Rattle.std.specs.Prelude.{◌≤ℤ◌, unsigned_abs}
 use Rattle.overlay_intersections.specs.Marks.{snapping}
-use Rattle.overlay_split.proofs.split.solver.snapping.Goals as goal
+use Rattle.overlay_split.proofs.split.solver.placing_after.Goals as goal
 
 at_least_one : (k : ℕ) → pos 1 ≤ℤ pos (2 ^ k)
 at_least_one k = omega (arith, ints, pow_pos k)
 
-pub returns-clause-placing : goal.returns-clause-placing
-returns-clause-placing g c =
+pub returns-clause-snaps : goal.returns-clause-snaps
+returns-clause-snaps g c = λ _.
     let fits : FitsSigned w64 c.radius_squared.result = search rules in
     ap (λ r. snapping (unsigned_abs r)) (to_z-of_z fits ∙ c.radius_squared.ensures)
 
