@@ -50,22 +50,22 @@ pub mod sort {
         use super::key::SortKey;
 
         pub trait TwoKeysSort<T> {
-            fn sort_by_two_keys<K1, K2, F1, F2>(&mut self, parallel: bool, key1: F1, key2: F2)
+            fn sort_by_two_keys<First, Second, ByFirst, BySecond>(&mut self, parallel: bool, key1: ByFirst, key2: BySecond)
             where
-                K1: SortKey,
-                K2: SortKey,
-                F1: Fn(&T) -> K1,
-                F2: Fn(&T) -> K2;
+                First: SortKey,
+                Second: SortKey,
+                ByFirst: Fn(&T) -> First,
+                BySecond: Fn(&T) -> Second;
         }
 
         impl<T> TwoKeysSort<T> for [T] {
             #[inline]
-            fn sort_by_two_keys<K1, K2, F1, F2>(&mut self, _parallel: bool, key1: F1, key2: F2)
+            fn sort_by_two_keys<First, Second, ByFirst, BySecond>(&mut self, _parallel: bool, key1: ByFirst, key2: BySecond)
             where
-                K1: SortKey,
-                K2: SortKey,
-                F1: Fn(&T) -> K1,
-                F2: Fn(&T) -> K2,
+                First: SortKey,
+                Second: SortKey,
+                ByFirst: Fn(&T) -> First,
+                BySecond: Fn(&T) -> Second,
             {
                 self.sort_by(|a, b| (key1(a), key2(a)).cmp(&(key1(b), key2(b))));
             }
