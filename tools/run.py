@@ -3,9 +3,9 @@
 
     python3 tools/run.py CRATE [-- ARGUMENT ..]
 
-`rt run` proves one library after another. On four processors this takes 9 minutes where that takes 23, and some 22 minutes of
-processor time in place of 49, since each further job of one check loads the libraries again. What is proved is the same: each
-library is built by the toolchain's own function, and `rt run` then finds it built.
+`rt run` proves one library after another, each with several jobs. Here those that do not rest on one another are proved at a time,
+since each further job of one check loads the libraries again. What is proved is the same: each library is built by the toolchain's
+own function, and `rt run` then finds it built.
 """
 import importlib.machinery
 import importlib.util
