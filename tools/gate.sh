@@ -93,7 +93,8 @@ archiving=$!
 trap 'kill "$trying" "$archiving" 2>/dev/null || true; rm -rf "$room"' EXIT
 python3 tools/ci.py | while IFS= read -r line; do
     printf '%s\n' "$line" >>"$lines"
-    [[ $line =~ ^rt:\ ([a-z_0-9]+)\ (proved$|is\ kept:) ]] && touch "$room/proved/${BASH_REMATCH[1]}"
+    # where another run proves a crate, the line that says so has no end, and the next follows in it
+    [[ $line =~ rt:\ ([a-z_0-9]+)\ (proved$|is\ kept:) ]] && touch "$room/proved/${BASH_REMATCH[1]}"
     case $line in
     "rt: "*" proved" | "rt: "*" NOT PROVED") printf '%5d s: %s\n' "$SECONDS" "$line" ;;
     *) printf '%s\n' "$line" ;;
