@@ -129,7 +129,7 @@ def main():
     opponents.add_argument("--strategies", action="store_true", help="race the strategies with one another")
     parser.add_argument("--rounds", type=int, default=3, help="rounds, in each of which both programs run (3)")
     parser.add_argument("--turns", type=int, default=9, help="runs of a program in each round, of a short input more (9)")
-    parser.add_argument("--strategy", default="auto", choices=["list", "tree", "frag", "auto"])
+    parser.add_argument("--strategy", default="auto", choices=STRATEGIES)
     parser.add_argument("--kinds", default=",".join([*POLYGONS, *LINES]), help="kinds, with commas between them")
     parser.add_argument("numbers", nargs="*", type=int, default=[1_000, 4_000, 16_000, 50_000])
     given = parser.parse_args()
