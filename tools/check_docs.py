@@ -56,7 +56,7 @@ LENGTHS = {
     "docs/PROGRAMS.md": 1_800,
     "docs/THEOREMS.md": 6_000,
 }
-ALL_WORDS, LINES_OF_README = 22_250, 120
+ALL_WORDS, LINES_OF_README = 22_300, 120
 # where a path of a document may begin, and how it may end
 OF_A_CRATE = ("", "src/", "specs/", "proofs/", "proofs/laws/*/")
 PLACES = ("", "rust/", "rust/src/", "rust/tests/", "bench/", *(f"crates/*/{it}" for it in OF_A_CRATE))
