@@ -3,6 +3,5 @@ pub mod Computing
 pub mod Pixels
 pub mod Chains
 pub mod PointTrees
-pub mod Closures
 pub mod Cuts
 pub mod Counts

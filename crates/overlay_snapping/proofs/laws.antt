@@ -6,3 +6,5 @@ pub mod point_trees
 pub mod closure
 pub mod cuts
 pub mod counting
+pub mod batches
+pub mod collinear

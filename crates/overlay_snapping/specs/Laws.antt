@@ -1,5 +1,5 @@
 -- Laws over the definitions: statements that the contracts of `snap::laws` name.
-use Rattle.std.specs.Prelude.{◌≡◌, ◌↔◌, ◌⊎◌, ◌≤◌, ◌*◌, true, if◌then◌else◌, IsTrue, IsFalse, List, Contains, IsPermutation, ℕ, ◌<◌, Some, All, length, slice_get}
+use Rattle.std.specs.Prelude.{◌≡◌, ◌↔◌, ◌⊎◌, ◌≤◌, ◌*◌, true, if◌then◌else◌, IsTrue, IsFalse, List, Contains, IsPermutation, ◌<◌, length}
 use Rattle.overlay_geometry.specs.Points.{Point, Pair, is_ordered, lies_on}
 use Rattle.overlay_geometry.specs.Meeting.{are_apart}
 use Rattle.overlay_split.specs.Nearness.{Fraction, point_along, LiesNear, LieNear, MarksLieNear}
@@ -10,10 +10,8 @@ use Rattle.overlay_base.specs.Segments.{WholeSegment, pairs, ends, are_ordered, 
 use Rattle.overlay_base.specs.Planar.{is_planar}
 use Rattle.overlay_intersections.specs.Marks.{settling}
 use Rattle.overlay_intersections.specs.PassMarks.{marks_on, is_rounded}
-use Rattle.overlay_snapping.specs.Chains.{comes_before, rounded_crossings, Moves, IsChainPoint, IsPiece, pair_between, IsChain, AreCutsBetween, IsSnapped, IsHot, AreSnapCuts, AreDecided}
+use Rattle.overlay_snapping.specs.Chains.{comes_before, rounded_crossings, Moves, IsChainPoint, IsPiece, pair_between, IsChain, AreCutsBetween, IsSnapped, AreSnapCuts, AreDecided}
 use Rattle.overlay_snapping.specs.Counts.{end_count, chain_points}
-use Rattle.overlay_snapping.specs.Closure.{AreWithin, IsReachedPlace, IsReachedIndex, IsClosureInput}
-use Rattle.overlay_snapping.specs.declared.snap.passing.Passing.{Passing}
 
 -- the inequality between whole numbers holds exactly where a point of the pair lies in the pixel
 abbrev pub InequalityIsMeant : Type 0
@@ -113,18 +111,3 @@ SnappedIsOne =
 -- The order of the segments does not count: the result is that of the same segments in any other order.
 abbrev pub SnappedIgnoresOrder : Type 0
 SnappedIgnoresOrder = (given other result : List WholeSegment) → IsPermutation given other → IsSnapped given result → IsSnapped other result
-
--- ---- the closure
-
--- A place is reached exactly where the point there is hot, and an index exactly where the segment with it moves.
-abbrev pub ReachedIsHot : Type 0
-ReachedIsHot =
-    (segments : List Pair) (points : List Point) (seeds : List ℕ) (passings : List Passing) → IsClosureInput segments points seeds passings →
-    ((place : ℕ) (c : Point) → slice_get points place ≡ Some c → IsReachedPlace seeds passings place ↔ IsHot segments c)
-    × ((index : ℕ) (s : Pair) → slice_get segments index ≡ Some s → IsReachedIndex seeds passings index ↔ Moves segments s)
-
--- the seeds and the passings have no place that is not one of a point, and no index that is not one of a segment
-abbrev pub InputIsWithin : Type 0
-InputIsWithin =
-    (segments : List Pair) (points : List Point) (seeds : List ℕ) (passings : List Passing) → IsClosureInput segments points seeds passings →
-    AreWithin (length points) (length segments) passings × All (λ place. place < length points) seeds

@@ -1,7 +1,6 @@
 pub mod Pixels
 pub mod Chains
-pub mod Closure
-pub mod ClosureOf
+pub mod HotOf
 pub mod Counts
 pub mod CutsOf
 pub mod PointTreeOf

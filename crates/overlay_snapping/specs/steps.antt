@@ -3,3 +3,6 @@ pub mod PointTrees
 pub mod BoxesOf
 pub mod Closing
 pub mod Cutting
+pub mod Batches
+pub mod Resolved
+pub mod LineWalks

@@ -1,10 +1,10 @@
 // Pixels, the segments that meet them, the closure, and the cuts. This project's own.
 
-pub mod closure;
+mod batches;
+mod closure;
+mod collinear;
 pub mod cut_finder;
 pub mod laws;
-mod marks;
-pub mod passing;
 pub mod pixel;
 pub mod point_tree;
 pub mod solver;

@@ -11,6 +11,7 @@ use std::process::Abort;
 
 mod by_definition;
 mod growing;
+mod nested;
 mod random;
 
 type Counted<I> = Segment<ShapeCountBoolean, I, ()>;

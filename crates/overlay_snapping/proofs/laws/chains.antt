@@ -4,6 +4,8 @@ pub mod MarkPoints
 pub mod MarkPixels
 pub mod Orders
 pub mod Paths
+pub mod GivenMarks
+pub mod HotCuts
 pub mod ExactCuts
 pub mod ExactSnaps
 pub mod Snaps

@@ -1,7 +1,4 @@
--- What seeds reach over a list of passings: the marks that code makes, how they spread, and that they are the least sets.
-pub mod Blocks
-pub mod Marking
-pub mod Spreading
-pub mod Tables
-pub mod Reached
-pub mod Geometry
+-- What is hot and what moves, found step by step.
+pub mod Flags
+pub mod Steps
+pub mod Sets

@@ -1,10 +1,10 @@
 -- How the cuts of segments are found.
 pub mod Collected
-pub mod Marked
-pub mod Meetings
+pub mod Places
+pub mod Given
+pub mod Ranges
 pub mod Searched
-pub mod Strict
-pub mod Cuts
-pub mod Found
+pub mod Between
+pub mod Added
 pub mod Reads
 pub mod ExactMarks

@@ -1,89 +1,88 @@
--- How marks of hot places and of moving segments spread.
-use Rattle.std.specs.Prelude.{◌≡◌, ◌⊎◌, ◌↔◌, ℕ, ◌+◌, Bool, IsTrue, false, not, List, [], Contains, count_by, length, slice_index_or, replicate}
-use Rattle.std.specs.List.Sorted.{IsNonDecreasingBy}
-use Rattle.overlay_snapping.specs.Closure.{HasPassing, AreWithin, IsReachedPlace, IsReachedIndex}
-use Rattle.overlay_snapping.specs.declared.snap.passing.Passing.{Passing}
-use Rattle.overlay_snapping.specs.declared.snap.passing.PassingTable.{PassingTable}
-use Rattle.overlay_snapping.specs.declared.snap.marks.Marks.{Marks}
+-- What is found of the hot points and of the segments that move, on the way to all of them.
+use Rattle.std.specs.Prelude.{◌≡◌, ◌⊎◌, ◌↔◌, ℕ, ℤ, ◌+◌, ◌≤◌, Bool, IsTrue, false, not, List, [], ◌++◌, Some, Contains, count_by, length, map, slice_get, slice_index_or, replicate}
+use Rattle.overlay_geometry.specs.Points.{Point, Pair}
+use Rattle.overlay_geometry.specs.PointOf.{point_of}
+use Rattle.overlay_snapping.specs.Chains.{rounded_crossings, given_points, passes_by, IsHot, Moves}
+use Rattle.overlay_snapping.specs.declared.snap.closure.Closure.{Closure}
 
--- ---- tables
+-- ---- what is given
 
--- both lists have these passings, one by index, the other by place
-pub record IsTableOf (passings : List Passing) (table : PassingTable) : Type 0 where
-  pub index_sorted : IsNonDecreasingBy (λ (p : Passing). p.index) table.by_index.items
-  pub place_sorted : IsNonDecreasingBy (λ (p : Passing). p.place) table.by_place.items
-  pub by_index : (p : Passing) → Contains table.by_index.items p ↔ Contains passings p
-  pub by_place : (p : Passing) → Contains table.by_place.items p ↔ Contains passings p
+-- The first are the points to which crossings are rounded. The others have all ends and whole crossings, and maybe some of the first.
+pub record IsInput (segments : List Pair) (rounded given : List Point) : Type 0 where
+  pub rounded_are : (c : Point) → Contains rounded c ↔ Contains (rounded_crossings segments) c
+  pub given_are : (c : Point) → Contains given c → Contains (given_points segments) c ⊎ Contains (rounded_crossings segments) c
+  pub all_given : (c : Point) → Contains (given_points segments) c → Contains given c
 
--- the two lists have the same passings
-abbrev pub IsTable : PassingTable → Type 0
-IsTable table = IsTableOf table.by_index.items table
+-- ---- what is found
 
--- ---- marks
+-- hot points beside the rounded ones, which given points are hot by their places, and which segments move by their indices
+pub record Found : Type 0 where
+  pub passed : List Point
+  pub heated : List Bool
+  pub moves : List Bool
 
-abbrev pub is_marked_hot : Marks → ℕ → Bool
-is_marked_hot marks place = slice_index_or marks.hot.items place false
+abbrev pub found_in : {I : Type 0} → (I → ℤ) → Closure I → Found
+found_in whole closure = record { passed = map (point_of whole) closure.passed.items; heated = closure.heated.items; moves = closure.moves.items }
 
-abbrev pub is_marked_mover : Marks → ℕ → Bool
-is_marked_mover marks index = slice_index_or marks.moves.items index false
+abbrev pub is_set : List Bool → ℕ → Bool
+is_set flags k = slice_index_or flags k false
 
-abbrev pub IsPending : Marks → ℕ → Type 0
-IsPending marks place = Contains marks.stack.items place
+-- s passes by some of these points
+abbrev pub PassesSome : List Point → Pair → Type 0
+PassesSome points s = (c : Point) × Contains points c × IsTrue (passes_by s c)
 
--- the table has places and indices for which there is room
-abbrev pub IsTableWithin : Marks → PassingTable → Type 0
-IsTableWithin marks table = AreWithin (length marks.hot.items) (length marks.moves.items) table.by_index.items
+-- c is one of those that are found to be hot
+abbrev pub IsFoundHot : List Point → Found → Point → Type 0
+IsFoundHot rounded found c = Contains rounded c ⊎ Contains found.passed c
 
--- there is room, and no mark
-pub record AreBlank (places indices : ℕ) (marks : Marks) : Type 0 where
-  pub hot : marks.hot.items ≡ replicate places false
-  pub moves : marks.moves.items ≡ replicate indices false
-  pub stack : marks.stack.items ≡ []
+-- so is each given point whose place is set
+abbrev pub AreHeated : List Point → List Point → Found → Type 0
+AreHeated rounded given found = (k : ℕ) (c : Point) → slice_get given k ≡ Some c → IsTrue (is_set found.heated k) → IsFoundHot rounded found c
 
--- how many places are not hot, and how many are pending: each visit takes one of these
-abbrev pub left : Marks → ℕ
-left marks = count_by not marks.hot.items + length marks.stack.items
+-- nothing is found
+pub record IsBlank (places indices : ℕ) (found : Found) : Type 0 where
+  pub passed : found.passed ≡ []
+  pub heated : found.heated ≡ replicate places false
+  pub moves : found.moves ≡ replicate indices false
 
--- new has the marks of old; a place that is newly hot is pending
-pub record Keeps (old new : Marks) : Type 0 where
-  pub places : length new.hot.items ≡ length old.hot.items
-  pub indices : length new.moves.items ≡ length old.moves.items
-  pub hot : (k : ℕ) → IsTrue (is_marked_hot old k) → IsTrue (is_marked_hot new k)
-  pub moves : (i : ℕ) → IsTrue (is_marked_mover old i) → IsTrue (is_marked_mover new i)
-  pub pending : (k : ℕ) → IsPending old k → IsPending new k
-  pub fresh : (k : ℕ) → IsTrue (is_marked_hot new k) → IsTrue (is_marked_hot old k) ⊎ IsPending new k
-  pub from : (k : ℕ) → IsPending new k → IsPending old k ⊎ IsTrue (is_marked_hot new k)
-  pub left : left new ≡ left old
+-- What is found to be hot is, what is found to move does, and the given points by which that passes are found to be hot.
+pub record IsSound (segments : List Pair) (rounded given : List Point) (found : Found) : Type 0 where
+  pub places : length found.heated ≡ length given
+  pub indices : length found.moves ≡ length segments
+  pub hot : (c : Point) → Contains found.passed c → Contains given c × IsHot segments c
+  pub heated : AreHeated rounded given found
+  pub moves : (i : ℕ) (s : Pair) → slice_get segments i ≡ Some s → IsTrue (is_set found.moves i) → Moves segments s
+  pub passed : (i : ℕ) (s : Pair) (c : Point) → slice_get segments i ≡ Some s → IsTrue (is_set found.moves i) → Contains given c → IsTrue (passes_by s c) → IsFoundHot rounded found c
 
--- new marks as hot what old does, and these places
-pub record Heats (places : ℕ → Type 0) (old new : Marks) : Type 0 where
-  pub keeps : Keeps old new
-  pub moves : new.moves.items ≡ old.moves.items
-  pub all : (k : ℕ) → places k → IsTrue (is_marked_hot new k)
-  pub only : (k : ℕ) → IsTrue (is_marked_hot new k) → IsTrue (is_marked_hot old k) ⊎ places k
+-- each segment is found to move that passes by some of these points
+abbrev pub HaveMoved : List Pair → List Point → Found → Type 0
+HaveMoved segments points found = (i : ℕ) (s : Pair) → slice_get segments i ≡ Some s → PassesSome points s → IsTrue (is_set found.moves i)
 
--- new marks what old does, these indices, and the places by which they pass
-pub record Spreads (table : PassingTable) (indices : ℕ → Type 0) (old new : Marks) : Type 0 where
-  pub keeps : Keeps old new
-  pub all : (i : ℕ) → indices i → IsTrue (is_marked_mover new i)
-  pub only : (i : ℕ) → IsTrue (is_marked_mover new i) → IsTrue (is_marked_mover old i) ⊎ indices i
-  pub hot : (k : ℕ) → IsTrue (is_marked_hot new k) → IsTrue (is_marked_hot old k) ⊎ ((i : ℕ) × indices i × HasPassing table.by_index.items i k)
-  pub passed : (i : ℕ) → IsTrue (is_marked_mover new i) → IsTrue (is_marked_mover old i) ⊎ ((k : ℕ) → HasPassing table.by_index.items i k → IsTrue (is_marked_hot new k))
+-- ---- steps
 
--- each hot place is pending or all that pass by it move, and each place is hot by which one passes that moves
-pub record IsUnfinished (table : PassingTable) (marks : Marks) : Type 0 where
-  pub hot : (k : ℕ) → IsTrue (is_marked_hot marks k) → IsPending marks k ⊎ ((i : ℕ) → HasPassing table.by_index.items i k → IsTrue (is_marked_mover marks i))
-  pub moves : (i k : ℕ) → IsTrue (is_marked_mover marks i) → HasPassing table.by_index.items i k → IsTrue (is_marked_hot marks k)
-  pub pending : (k : ℕ) → IsPending marks k → IsTrue (is_marked_hot marks k)
+-- how many given points are not found to be hot, and how many others are
+abbrev pub left : Found → ℕ
+left found = count_by not found.heated + length found.passed
 
--- what is marked is reached from the seeds
-pub record AreReached (seeds : List ℕ) (table : PassingTable) (marks : Marks) : Type 0 where
-  pub hot : (k : ℕ) → IsTrue (is_marked_hot marks k) → IsReachedPlace seeds table.by_index.items k
-  pub moves : (i : ℕ) → IsTrue (is_marked_mover marks i) → IsReachedIndex seeds table.by_index.items i
+-- nothing that was found is lost
+pub record GoesOn (old new : Found) : Type 0 where
+  pub more : (more : List Point) × (new.passed ≡ old.passed ++ more)
+  pub places : length new.heated ≡ length old.heated
+  pub moves : (i : ℕ) → IsTrue (is_set old.moves i) → IsTrue (is_set new.moves i)
+  pub left : left new ≤ left old
 
--- new marks what old does, and all that is reached from it, and no more
-pub record IsFinished (table : PassingTable) (old new : Marks) : Type 0 where
-  pub keeps : (k : ℕ) → IsTrue (is_marked_hot old k) → IsTrue (is_marked_hot new k)
-  pub hot : (i k : ℕ) → IsTrue (is_marked_hot new k) → HasPassing table.by_index.items i k → IsTrue (is_marked_mover new i)
-  pub moves : (i k : ℕ) → IsTrue (is_marked_mover new i) → HasPassing table.by_index.items i k → IsTrue (is_marked_hot new k)
-  pub reached : (seeds : List ℕ) → AreReached seeds table old → AreReached seeds table new
+-- the given point c, at a place, is found to be hot
+pub record Heats (rounded : List Point) (place : ℕ) (c : Point) (old new : Found) : Type 0 where
+  pub goes : GoesOn old new
+  pub same : new.moves ≡ old.moves
+  pub only_set : (k : ℕ) → IsTrue (is_set new.heated k) → IsTrue (is_set old.heated k) ⊎ (k ≡ place)
+  pub only : (d : Point) → Contains new.passed d → Contains old.passed d ⊎ (d ≡ c)
+  pub found : IsTrue (is_set old.heated place) ⊎ IsFoundHot rounded new c
+
+-- so are the given points by which s passes
+pub record HeatsPassed (s : Pair) (rounded given : List Point) (old new : Found) : Type 0 where
+  pub goes : GoesOn old new
+  pub same : new.moves ≡ old.moves
+  pub heated : AreHeated rounded given new
+  pub only : (c : Point) → Contains new.passed c → Contains old.passed c ⊎ (Contains given c × IsTrue (passes_by s c))
+  pub all : (c : Point) → Contains given c → IsTrue (passes_by s c) → IsFoundHot rounded new c

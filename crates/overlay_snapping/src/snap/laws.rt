@@ -1,6 +1,6 @@
-// The laws of pixels, chains and closures. The functions have empty bodies, and their contracts are proved for all
+// The laws of pixels and chains. The functions have empty bodies, and their contracts are proved for all
 // whole numbers, whatever the engine.
-ghost use Rattle.overlay_snapping.specs.Laws.{InequalityIsMeant, PixelsAreMetInOrder, PiecesLieNear, RoundedAreMarksOff, ChainPointsAreEndsAndMarks, MarksMeetPixels, PiecesAreApart, SnappedIsPlanar, SnappedLiesNear, PlanarHasFew, SnappedHasFew, ChainPointsAreListed, PathIsChain, CutsSnap, SnappedIsOne, SnappedIgnoresOrder, ExactSnapIsPass, ReachedIsHot, InputIsWithin};
+ghost use Rattle.overlay_snapping.specs.Laws.{InequalityIsMeant, PixelsAreMetInOrder, PiecesLieNear, RoundedAreMarksOff, ChainPointsAreEndsAndMarks, MarksMeetPixels, PiecesAreApart, SnappedIsPlanar, SnappedLiesNear, PlanarHasFew, SnappedHasFew, ChainPointsAreListed, PathIsChain, CutsSnap, SnappedIsOne, SnappedIgnoresOrder, ExactSnapIsPass};
 
 /// The test by whole numbers says whether some point of a segment lies in a pixel. A segment meets pixels in the order
 /// of their points along it, so the points of a chain need no parameters to be sorted. A piece between two points whose
@@ -57,13 +57,4 @@ pub fn chain_laws()
     ensures one { SnappedIsOne }
     ensures order { SnappedIgnoresOrder }
     ensures exact { ExactSnapIsPass }
-{}
-
-/// What seeds reach is what is hot and what moves. The points have to be the ends and the
-/// crossings, the seeds the places of the rounded ones, and the passings those of all segments by
-/// all points. A point may be at several places. Such seeds and passings meet the conditions of
-/// `Closure::close`.
-pub fn closure_laws()
-    ensures reached { ReachedIsHot }
-    ensures within { InputIsWithin }
 {}

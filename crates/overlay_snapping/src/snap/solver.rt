@@ -1,20 +1,29 @@
 // Snap rounding as the split of a list: what is equal is joined, each segment is cut along its chain, and the pieces are
 // joined. This project's own.
-ghost use Rattle.std.specs.Prelude.{◌≡◌, if◌then◌else◌, [], IsTrue, IfOk, IfErr, OnOk, OnErr};
+ghost use Rattle.std.specs.Prelude.{◌≡◌, ◌↔◌, ◌<◌, ◌^◌, if◌then◌else◌, [], IsTrue, IsFalse, IfOk, IfErr, OnOk, OnErr};
 ghost use Rattle.overlay_base.specs.declared.segm.fault.Fault.TheVariants.{Memory};
 ghost use Rattle.overlay_base.specs.ArrangedOf.{IsSplittable, IsArranged};
 ghost use Rattle.overlay_base.specs.Balance.{KeepsBalance};
 ghost use Rattle.overlay_base.specs.EdgeData.{IsMadeFrom};
 ghost use Rattle.overlay_base.specs.FaultOf.{OnTooLarge};
 ghost use Rattle.overlay_base.specs.HooksOf.{hooks_of};
+ghost use Rattle.overlay_base.specs.Join.{join_leaves_range};
 ghost use Rattle.overlay_base.specs.Segments.{is_map};
+ghost use Rattle.overlay_base.specs.steps.Early.{magnitudes};
+ghost use Rattle.overlay_intersections.specs.MarkOf.{AreMarksOf};
+ghost use Rattle.overlay_intersections.specs.declared.split.placing.Placing.TheVariants.{Settling};
+ghost use Rattle.overlay_split.specs.Pass.{cut_by, pass_by};
 ghost use Rattle.overlay_base.specs.SegmentOf.{segments_of};
 ghost use Rattle.overlay_intersections.specs.PassMarks.{is_rounded};
 ghost use Rattle.overlay_split.specs.SplitOf.{KeepsWhatHolds, LiesInBox, IsExactInput, HasGivenCounts, ChangesNothing, ChangesNoStore};
 ghost use Rattle.overlay_snapping.specs.CutsOf.{AreCutsOf};
 ghost use Rattle.overlay_snapping.specs.SnapOf.{IsSnapOf, TellsChange, reach_of_snap, LiesWithinReach, GivenLiesWithinReach, WindsBeyondReach, HasFewSegments, SumsLeaveRange, HasSnapData, GivesSnapData, IsSnapStore, StopsSnap, LiesWithinReachOfNamed};
 ghost use Rattle.overlay_snapping.specs.SolverOf.{reach_of};
+ghost use Rattle.overlay_snapping.specs.HotOf.{KnowsHot};
+ghost use Rattle.overlay_snapping.specs.steps.Batches.{HasCut, HasCuts, ForCuts, HasDataOfPass, IsPassStore, StopsPass};
 
+use crate::snap::batches::{are_small, joined_pieces};
+use crate::snap::collinear::split_collinear;
 use crate::snap::cut_finder::CutFinder;
 use overlay_base::overlay_core::edge_data::OverlayEdgeData;
 use overlay_base::overlay_core::solver::Solver;
@@ -32,6 +41,13 @@ use overlay_split::split::pass::pass_at;
 use overlay_tree::split::solver_tree::TreeBuffers;
 use std::alloc::Global;
 use std::mem::replace;
+
+/// So many cuts are listed for each segment and each mark before segments are cut some at a time: with these, most lists are
+/// cut at once.
+const CUTS_PER_POINT: usize = 2;
+
+/// So many cuts are listed in any case.
+const LEAST_AT_ONCE: usize = 65_536;
 
 /// Splits lists of segments by snap rounding. It keeps its memory from one call to the next, but for that of the cuts.
 #[derive(Drop)]
@@ -164,31 +180,49 @@ impl<I: OverlayInt> SnapSolver<I> {
         ensures reach_before { OnErr result (reach_of self.new ≡ reach_of self.old) }
     {
         let repeated = join_with_store(list, store)?;
-        let is_rounded = match self.find_cuts(list, solver) {
-            Ok(is_rounded) => is_rounded,
+        let (grid, tree, path) = (&mut self.grid, &mut self.tree, &mut self.path);
+        if let Some(split) = split_collinear(
+            list.as_slice(),
+            self.alloc,
+            solver,
+            grid,
+            tree,
+            path,
+        ) {
+            *list = split;
+            self.reach = 0;
+            return Ok(true);
+        }
+        let has_to_list = !D::has_one_value() || !are_small(list);
+        let found = match self.find_cuts(list, solver, has_to_list) {
+            Ok(found) => found,
             Err(fault) => {
                 list.clear();
                 return Err(fault);
             }
         };
-        let cuts = replace(&mut self.cuts, Vec::new(self.alloc));
-        let is_cut = !cuts.is_empty();
-        pass_at(list, cuts, &mut self.path, store)?;
-        self.reach = most_moved(is_rounded);
+        let is_cut = self.cut(list, found, store)?;
+        self.reach = most_moved(found.is_rounded);
         Ok(repeated | is_cut)
     }
 
-    /// Finds where the segments of a sorted list are cut. Returns whether two of them cross at a point without whole
-    /// coordinates, so that it is rounded.
+    /// Finds where the segments of a sorted list are cut. The cuts are listed, if they have to be or are not very many.
     fn find_cuts<C: WindingCount, D: Copy>(
         &mut self,
         segments: &[Segment<C, I, D>],
         solver: &Solver,
-    ) -> Result<bool, Fault>
+        has_to_list: bool,
+    ) -> Result<Found, Fault>
         requires map { IsTrue (is_map (segments_of segments.now)) }
         requires splittable { IsSplittable segments.now }
-        ensures cuts { OnOk result (AreCutsOf segments.now self.new.cuts.items) }
-        ensures rounded { IfOk result (λ flag. flag ≡ is_rounded (segments_of segments.now)) }
+        ensures cuts { IfOk result (λ found. IsTrue found.are_listed → AreCutsOf segments.now self.new.cuts.items) }
+        ensures marks { OnOk result (AreMarksOf Settling segments.now self.new.marks.items) }
+        ensures known { IfOk result (λ found. IsFalse found.are_listed
+            → KnowsHot (segments_of segments.now) self.new.finder) }
+        ensures some { IfOk result (λ found. IsFalse found.are_listed → HasCut (segments_of segments.now)) }
+        ensures listed { IsTrue has_to_list → IfOk result (λ found. IsTrue found.are_listed) }
+        ensures has_cuts { OnOk result (HasCuts (segments_of segments.now)) }
+        ensures rounded { IfOk result (λ found. found.is_rounded ≡ is_rounded (segments_of segments.now)) }
         ensures fault { IfErr result (λ fault. fault ≡ Memory) }
         ensures reach { reach_of self.new ≡ reach_of self.old }
     {
@@ -197,15 +231,100 @@ impl<I: OverlayInt> SnapSolver<I> {
         let is_rounded = pairs.find_marks(segments, placing, &mut self.tree, &mut self.marks)?;
         pairs.give_back(&mut self.grid);
         if is_rounded {
-            self.finder
-                .find_cuts(segments, self.marks.as_slice(), &mut self.cuts)?;
-        } else {
-            // where every crossing is a whole point nothing moves
-            self.cuts.clear();
-            self.cuts.extend_from_slice(self.marks.as_slice())?;
+            let most = if has_to_list {
+                usize::MAX
+            } else {
+                most_at_once(segments.len(), self.marks.len())
+            };
+            let (marks, cuts) = (self.marks.as_slice(), &mut self.cuts);
+            let are_listed = self.finder.find_cuts(segments, marks, most, cuts)?;
+            return Ok(Found {
+                is_rounded,
+                are_listed,
+            });
         }
-        Ok(is_rounded)
+        // where every crossing is a whole point nothing moves
+        self.cuts.clear();
+        self.cuts.extend_from_slice(self.marks.as_slice())?;
+        Ok(Found {
+            is_rounded,
+            are_listed: true,
+        })
     }
+
+    /// Cuts the segments of a sorted list where `find_cuts` found it, and joins the pieces. Returns whether one was cut.
+    ///
+    /// Where a call is refused the list is empty.
+    fn cut<C: WindingCount, D: OverlayEdgeData<C>>(
+        &mut self,
+        list: &mut Vec<Segment<C, I, D>>,
+        found: Found,
+        store: &mut D::Store,
+    ) -> Result<bool, Fault>
+        requires map { IsTrue (is_map (segments_of list.old.items)) }
+        requires splittable { IsSplittable list.old.items }
+        requires cuts { IsTrue found.are_listed → AreCutsOf list.old.items self.old.cuts.items }
+        requires marks { AreMarksOf Settling list.old.items self.old.marks.items }
+        requires known { IsFalse found.are_listed → KnowsHot (segments_of list.old.items) self.old.finder }
+        requires some { IsFalse found.are_listed → HasCut (segments_of list.old.items) }
+        requires small { IsFalse found.are_listed → magnitudes (segments_of list.old.items) < 2 ^ 31 }
+        requires one_data { IsFalse found.are_listed → (a b : D) → a ≡ b }
+        requires one_store { IsFalse found.are_listed → (a b : D.Store) → a ≡ b }
+        ensures geometry { OnOk result (ForCuts (segments_of list.old.items)
+            (λ on. segments_of list.new.items ≡ pass_by on (segments_of list.old.items))) }
+        ensures edge_data { OnOk result (ForCuts (segments_of list.old.items)
+            (HasDataOfPass D.OverlayEdgeData.own list.old store.old list.new)) }
+        ensures store { OnOk result (ForCuts (segments_of list.old.items)
+            (IsPassStore D.OverlayEdgeData.own list.old store.old store.new)) }
+        ensures cut { IfOk result (λ is_cut. IsTrue is_cut ↔ HasCut (segments_of list.old.items)) }
+
+        ensures fits { OnOk result (ForCuts (segments_of list.old.items)
+            (λ on. IsFalse (join_leaves_range (cut_by on (segments_of list.old.items))))) }
+        ensures refused { OnTooLarge result (ForCuts (segments_of list.old.items)
+            (λ on. IsTrue (join_leaves_range (cut_by on (segments_of list.old.items))))) }
+        ensures emptied { OnErr result (list.new.items ≡ []) }
+        ensures stopped { OnTooLarge result (ForCuts (segments_of list.old.items)
+            (StopsPass D.OverlayEdgeData.own list.old store.old store.new)) }
+        ensures store_made { IsMadeFrom (hooks_of C.counted D.OverlayEdgeData.own) store.old store.new }
+        ensures reach { reach_of self.new ≡ reach_of self.old }
+    {
+        if found.are_listed {
+            let cuts = replace(&mut self.cuts, Vec::new(self.alloc));
+            let is_cut = !cuts.is_empty();
+            pass_at(list, cuts, &mut self.path, store)?;
+            return Ok(is_cut);
+        }
+        let most = most_at_once(list.len(), self.marks.len());
+        let marks = self.marks.as_slice();
+        let (finder, cuts, path) = (&mut self.finder, &mut self.cuts, &mut self.path);
+        match joined_pieces(list, marks, finder, cuts, path, most, store) {
+            Ok(pieces) => {
+                *list = pieces;
+                Ok(true)
+            }
+            Err(fault) => {
+                list.clear();
+                Err(fault)
+            }
+        }
+    }
+}
+
+/// What `SnapSolver::find_cuts` found.
+#[derive(Clone, Copy)]
+struct Found {
+    /// Whether two segments cross at a point without whole coordinates, so that it is rounded.
+    is_rounded: bool,
+    /// Whether all cuts are listed. Else they are so many that segments are cut some at a time.
+    are_listed: bool,
+}
+
+/// How many cuts are listed, and how many pieces are made, before they are joined.
+fn most_at_once(segments: usize, marks: usize) -> usize {
+    segments
+        .saturating_add(marks)
+        .saturating_mul(CUTS_PER_POINT)
+        .max(LEAST_AT_ONCE)
 }
 
 /// How far a split by snap rounding moves a crossing at most, in halves of a unit, by whether it rounds one.

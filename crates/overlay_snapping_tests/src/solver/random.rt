@@ -46,7 +46,7 @@ fn random_rows(
 }
 
 /// Whether two lists have the same rows, each once.
-fn has_same_rows(first: &[Row], second: &[Row]) -> bool {
+pub(super) fn has_same_rows(first: &[Row], second: &[Row]) -> bool {
     first.len() == second.len() && first.iter().all(|row| second.iter().any(|it| it == row))
 }
 

@@ -103,17 +103,8 @@ same_number : (n : ℕ) → (n == n) ≡ true
 same_number n = grind (arith)
 
 -- a mark in front is one of those of its segment
-own_point : (mark : Mark) (marks : List Mark) → Has (points_at mark.index (mark ∷ marks)) mark.point
+pub own_point : (mark : Mark) (marks : List Mark) → Has (points_at mark.index (mark ∷ marks)) mark.point
 own_point mark marks = Has-map (λ (m : Mark). m.point) (filter (λ (m : Mark). m.index == mark.index) (mark ∷ marks)) mark (Has-filter (λ (m : Mark). m.index == mark.index) (mark ∷ marks) mark (inl refl) (same_number mark.index))
-
--- where no segment is cut there are no marks
-pub no_marks : (segments : List WholeSegment) (marks : List Mark) → AreCuts segments marks → ((s : Pair) (points : List Point) → Has (pairs segments) s → AreCutsBetween (pairs segments) s points → points ≡ []) → marks ≡ []
-no_marks segments [] cuts none = refl
-no_marks segments (mark ∷ marks) cuts none =
-    let d : WholeSegment = record { pair = record { a = mark.point; b = mark.point }; count = empty } in
-    let less : mark.index < length segments = cuts.within 0 mark (omega arith) in
-    let points : points_at mark.index (mark ∷ marks) ≡ [] = none (slice_index_or segments mark.index d).pair (points_at mark.index (mark ∷ marks)) (Has-from_Contains (pairs segments) (slice_index_or segments mark.index d).pair (pair_at segments mark.index d less)) (cuts.each mark.index d less) in
-    absurd (subst (λ l. Has l mark.point) points (own_point mark marks))
 
 -- ---- whether there are marks
 

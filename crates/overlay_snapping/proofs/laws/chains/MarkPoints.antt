@@ -29,7 +29,7 @@ settles_at : (s t : Pair) → IsTrue (do_cross s t) → ordered_mark settling s 
 unfolding ordered_mark crossing_mark
 settles_at s t c = cond_both (pair_lt s t) (settling_point s t) (settling_point t s) (λ p. p ≡ settling_point s t) (λ _. refl) (λ _. sym (target_does_not_matter s t c).1)
 
-Has-marks_on : (segments : List WholeSegment) (s t : Pair) (c : Point) → Has (pairs segments) t → Has (marks_by settling s t) c → Has (marks_on settling segments s) c
+pub Has-marks_on : (segments : List WholeSegment) (s t : Pair) (c : Point) → Has (pairs segments) t → Has (marks_by settling s t) c → Has (marks_on settling segments s) c
 unfolding marks_on
 Has-marks_on segments s t c j h =
     Has-distinct_in_order point_cmp_total point_same (flat_map (λ u. marks_by settling s u) (pairs segments)) c

@@ -155,7 +155,7 @@ module _ (segments : List WholeSegment) (planar : IsTrue (is_planar segments)) w
       by (inr (inl e)) = or_right _ _ (subst (λ p. is_strictly_inside s p ≡ true) (sym e) inside)
       by (inr (inr n)) = absurd n
 
-  no_cut : (s : Pair) (c : Point) → Has (pairs segments) s → IsCutAt (pairs segments) s c → IsFalse (is_end s c) → ⊥
+  pub no_cut : (s : Pair) (c : Point) → Has (pairs segments) s → IsCutAt (pairs segments) s c → IsFalse (is_end s c) → ⊥
   no_cut s c i (moving m p h) free = none_moves s m
   no_cut s c i (staying n p on) free = by p
     where

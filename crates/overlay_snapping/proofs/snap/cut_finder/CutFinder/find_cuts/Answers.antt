@@ -1,88 +1,59 @@
-use Rattle.std.proofs.Common.{sym, subst, map}
-use Rattle.std.specs.Prelude.{IsSortedByKey}
-use Rattle.std.proofs.lemmas.Result.{on_ok_weaker}
-use Rattle.overlay_geometry.specs.Points.{point_cmp}
-use Rattle.overlay_geometry.specs.PointOf.{point_of}
-use Rattle.overlay_snapping.specs.ClosureOf.{moves_in}
-use Rattle.overlay_snapping.proofs.laws.cuts.Found.{marks_within, marks_in_range, listed_in_range, points_in_range, met_within, are_collected, input_within, cuts_are}
+use Rattle.std.proofs.Common.{◌≡◌, ◌∙◌, ◌+◌, sym, ap, subst, List, length, arith}
+use Rattle.std.proofs.lemmas.List.{length-map}
+use Rattle.overlay_base.specs.SegmentOf.{segment_of, segments_of}
+use Rattle.overlay_intersections.specs.MarkOf.{mark_of, marks_of, mark_points_of}
+use Rattle.overlay_snapping.proofs.laws.batches.Existence.{some_cut}
+use Rattle.overlay_snapping.proofs.laws.cuts.Added.{AreCutsBelow, AreMarksFrom, cuts_none, cuts_added, cuts_all, marks_first, marks_own, marks_later}
 use Rattle.overlay_snapping.proofs.snap.cut_finder.CutFinder.find_cuts.Goals as goal
 
-pub fill-requires : goal.fill-requires
-fill-requires g c = record {
-  in_range = listed_in_range c.args.segments.now c.args.marks.now c.requires.marks c.requires.map c.requires.in_range c.collect_points.new.points.items c.deref.result.now c.deref.result.now
-      c.deref.result.now c.in_ok-collect_points.ensures c.deref.ensures.value;
-}
-
-pub collect_rounded-requires-clause-indices : goal.collect_rounded-requires-clause-indices
-collect_rounded-requires-clause-indices g c = marks_within c.args.segments.now c.args.marks.now c.requires.marks
-
-pub collect_rounded-requires-clause-points : goal.collect_rounded-requires-clause-points
-collect_rounded-requires-clause-points g c = marks_in_range c.args.segments.now c.args.marks.now c.requires.marks c.requires.map c.requires.in_range
-
-pub collect_seeds-requires : goal.collect_seeds-requires
-collect_seeds-requires g c = record {
-  sorted = subst (λ l. IsSortedByKey (point_of g.I.OverlayInt.whole) point_cmp l) (sym c.deref-2.ensures.value) c.in_ok-collect_rounded.ensures.sorted;
-}
-
-pub collect_passings-requires-clause-points : goal.collect_passings-requires-clause-points
-collect_passings-requires-clause-points g c =
-    points_in_range c.args.segments.now c.args.marks.now c.requires.marks c.requires.map c.requires.in_range c.collect_points.new.points.items c.deref.result.now c.fill.new.self.points.items c.points-points.result.now
-    c.in_ok-collect_points.ensures c.deref.ensures.value c.in_ok-fill.ensures.same c.points-points.ensures
-
-pub collect_passings-requires-clause-within : goal.collect_passings-requires-clause-within
-collect_passings-requires-clause-within g c =
-    met_within c.args.segments.now c.args.marks.now c.requires.marks c.requires.map c.requires.in_range c.collect_points.new.points.items c.deref.result.now c.fill.new.self.points.items c.points-points.result.now
-    c.in_ok-collect_points.ensures c.deref.ensures.value c.in_ok-fill.ensures.same c.points-points.ensures c.collect_meetings.new.meetings.items c.deref-3.result.now c.in_ok-collect_meetings.ensures c.deref-3.ensures.value
-
-pub close-requires-clause-passings : goal.close-requires-clause-passings
-close-requires-clause-passings g c =
-    let segments = c.args.segments.now in
-    let marks = c.args.marks.now in
-    let all = are_collected segments marks c.requires.marks c.requires.map c.requires.in_range c.collect_points.new.points.items c.deref.result.now c.fill.new.self.points.items c.points-points.result.now
-    c.in_ok-collect_points.ensures c.deref.ensures.value c.in_ok-fill.ensures.same c.points-points.ensures c.collect_meetings.new.meetings.items c.deref-3.result.now c.in_ok-collect_meetings.ensures c.deref-3.ensures.value
-    c.collect_rounded.new.rounded.items c.deref-2.result.now c.collect_seeds.new.seeds.items c.deref-5.result.now c.collect_passings.new.passings.items c.deref-4.result.now c.in_ok-collect_rounded.ensures.elements
-    c.deref-2.ensures.value c.in_ok-collect_seeds.ensures c.deref-5.ensures.value c.in_ok-collect_passings.ensures c.deref-4.ensures.value in
-    (input_within segments marks c.requires.marks c.requires.map c.requires.in_range c.collect_points.new.points.items c.deref.result.now c.fill.new.self.points.items c.points-points.result.now
-    c.in_ok-collect_points.ensures c.deref.ensures.value c.in_ok-fill.ensures.same c.points-points.ensures c.collect_meetings.new.meetings.items c.deref-3.result.now c.in_ok-collect_meetings.ensures c.deref-3.ensures.value
-    (map (point_of g.I.OverlayInt.whole) c.deref-2.result.now) c.deref-5.result.now c.deref-4.result.now all).0
-
-pub close-requires-clause-seeds : goal.close-requires-clause-seeds
-close-requires-clause-seeds g c =
-    let segments = c.args.segments.now in
-    let marks = c.args.marks.now in
-    let all = are_collected segments marks c.requires.marks c.requires.map c.requires.in_range c.collect_points.new.points.items c.deref.result.now c.fill.new.self.points.items c.points-points.result.now
-    c.in_ok-collect_points.ensures c.deref.ensures.value c.in_ok-fill.ensures.same c.points-points.ensures c.collect_meetings.new.meetings.items c.deref-3.result.now c.in_ok-collect_meetings.ensures c.deref-3.ensures.value
-    c.collect_rounded.new.rounded.items c.deref-2.result.now c.collect_seeds.new.seeds.items c.deref-5.result.now c.collect_passings.new.passings.items c.deref-4.result.now c.in_ok-collect_rounded.ensures.elements
-    c.deref-2.ensures.value c.in_ok-collect_seeds.ensures c.deref-5.ensures.value c.in_ok-collect_passings.ensures c.deref-4.ensures.value in
-    (input_within segments marks c.requires.marks c.requires.map c.requires.in_range c.collect_points.new.points.items c.deref.result.now c.fill.new.self.points.items c.points-points.result.now
-    c.in_ok-collect_points.ensures c.deref.ensures.value c.in_ok-fill.ensures.same c.points-points.ensures c.collect_meetings.new.meetings.items c.deref-3.result.now c.in_ok-collect_meetings.ensures c.deref-3.ensures.value
-    (map (point_of g.I.OverlayInt.whole) c.deref-2.result.now) c.deref-5.result.now c.deref-4.result.now all).1
-
-pub collect_cuts-requires-clause-points : goal.collect_cuts-requires-clause-points
-collect_cuts-requires-clause-points g c =
-    points_in_range c.args.segments.now c.args.marks.now c.requires.marks c.requires.map c.requires.in_range c.collect_points.new.points.items c.deref.result.now c.fill.new.self.points.items c.points-points.result.now
-    c.in_ok-collect_points.ensures c.deref.ensures.value c.in_ok-fill.ensures.same c.points-points.ensures
-
-pub collect_cuts-requires-clause-within : goal.collect_cuts-requires-clause-within
-collect_cuts-requires-clause-within g c =
-    met_within c.args.segments.now c.args.marks.now c.requires.marks c.requires.map c.requires.in_range c.collect_points.new.points.items c.deref.result.now c.fill.new.self.points.items c.points-points.result.now
-    c.in_ok-collect_points.ensures c.deref.ensures.value c.in_ok-fill.ensures.same c.points-points.ensures c.collect_meetings.new.meetings.items c.deref-6.result.now c.in_ok-collect_meetings.ensures c.deref-6.ensures.value
-
-pub returns : goal.returns
-returns g c =
+pub append_cuts-requires-clause-own : goal.append_cuts-requires-clause-own
+append_cuts-requires-clause-own g c = λ d.
     let whole = g.I.OverlayInt.whole in
-    let segments = c.args.segments.now in
-    let marks = c.args.marks.now in
-    let all = are_collected segments marks c.requires.marks c.requires.map c.requires.in_range c.collect_points.new.points.items c.deref.result.now c.fill.new.self.points.items c.points-points.result.now
-    c.in_ok-collect_points.ensures c.deref.ensures.value c.in_ok-fill.ensures.same c.points-points.ensures c.collect_meetings.new.meetings.items c.deref-3.result.now c.in_ok-collect_meetings.ensures c.deref-3.ensures.value
-    c.collect_rounded.new.rounded.items c.deref-2.result.now c.collect_seeds.new.seeds.items c.deref-5.result.now c.collect_passings.new.passings.items c.deref-4.result.now c.in_ok-collect_rounded.ensures.elements
-    c.deref-2.ensures.value c.in_ok-collect_seeds.ensures c.deref-5.ensures.value c.in_ok-collect_passings.ensures c.deref-4.ensures.value in
-    let sorted = simp g.met.I.OverlayInt.ordered at c.sort.ensures.sorted in
+    let long = length-map c.args.segments.now (λ s. segment_of s) in
+    let inside = c.loop-index-test.true in
+    ap (mark_points_of whole) c.split_at.ensures.front
+    ∙ marks_own (mark_of whole) (segments_of c.args.segments.now) c.loop-index.index c.loop-index.rest.now c.loop-index.invariant.rest c.own_len.result c.own_len.ensures.within c.own_len.ensures.own c.own_len.ensures.later d
+    (omega (arith, inside, long))
+
+pub loop-index-init : goal.loop-index-init
+loop-index-init g c =
+    let whole = g.I.OverlayInt.whole in
+    let segments = segments_of c.args.segments.now in
     record {
-      cuts = on_ok_weaker c.sort.result
-          (λ order. cuts_are segments marks c.requires.marks c.requires.map c.requires.in_range c.collect_points.new.points.items c.deref.result.now c.fill.new.self.points.items c.points-points.result.now
-          c.in_ok-collect_points.ensures c.deref.ensures.value c.in_ok-fill.ensures.same c.points-points.ensures c.collect_meetings.new.meetings.items c.deref-6.result.now c.in_ok-collect_meetings.ensures c.deref-6.ensures.value
-          (map (point_of whole) c.deref-2.result.now) c.deref-5.result.now c.deref-4.result.now all (moves_in c.close.new.self) c.in_ok-close.ensures.moves c.in_ok-fill.ensures.once c.collect_cuts.new.cuts.items
-          c.sort.new.self.items c.in_ok-collect_cuts.ensures c.sort.ensures.permutation order)
-          sorted;
+      cuts = subst (λ l. AreCutsBelow segments 0 (marks_of whole l)) (sym c.clear.ensures.items) (cuts_none segments);
+      rest = marks_first segments (marks_of whole c.args.marks.now) c.requires.marks;
+      known = c.in_ok-find_hot.ensures.known;
     }
+
+pub loop-index-preserved : goal.loop-index-preserved
+loop-index-preserved g c =
+    let whole = g.I.OverlayInt.whole in
+    let segments = segments_of c.args.segments.now in
+    let index = c.loop-index.index in
+    let added = c.in_ok-append_cuts.ensures.cuts in
+    record {
+      cuts = cuts_added c.args.segments.now index c.loop-index.cuts.items c.append_cuts.new.cuts.items added.0 added.1 added.2 c.loop-index.invariant.cuts;
+      rest = subst (λ l. AreMarksFrom segments (index + 1) (marks_of whole l)) (sym c.split_at.ensures.back)
+          (marks_later (mark_of whole) segments index c.loop-index.rest.now c.loop-index.invariant.rest c.own_len.result c.own_len.ensures.within c.own_len.ensures.own c.own_len.ensures.later);
+      known = c.in_ok-append_cuts.ensures.known;
+    }
+
+pub returns-clause-cuts : goal.returns-clause-cuts
+returns-clause-cuts g c = λ all.
+    let long = length-map c.args.segments.now (λ s. segment_of s) in
+    let past = c.loop-index-test.false in
+    let up = c.loop-index.auto.index-end in
+    cuts_all (segments_of c.args.segments.now) c.loop-index.index (marks_of g.I.OverlayInt.whole c.loop-index.cuts.items) c.loop-index.invariant.known.decided (omega (arith, long, past, up)) c.loop-index.invariant.cuts
+
+pub returns-then-most-len-clause-beyond : goal.returns-then-most-len-clause-beyond
+returns-then-most-len-clause-beyond g c = λ _.
+    let whole = g.I.OverlayInt.whole in
+    let segments = segments_of c.args.segments.now in
+    let index = c.loop-index.index in
+    let added = c.in_ok-append_cuts.ensures.cuts in
+    let long = length-map c.args.segments.now (λ s. segment_of s) in
+    let marks = length-map c.append_cuts.new.cuts.items (mark_of whole) in
+    let inside = c.loop-index-test.true in
+    let many = c.if-most-len.true in
+    some_cut segments (index + 1) (marks_of whole c.append_cuts.new.cuts.items) (omega (arith, inside, long)) (omega (arith, marks, many, c.append_cuts.new.cuts.ok.0))
+    (cuts_added c.args.segments.now index c.loop-index.cuts.items c.append_cuts.new.cuts.items added.0 added.1 added.2 c.loop-index.invariant.cuts)

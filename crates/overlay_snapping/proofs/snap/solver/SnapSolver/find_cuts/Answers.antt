@@ -7,6 +7,8 @@ use Rattle.overlay_split.specs.Run.{after_passes}
 use Rattle.overlay_split.proofs.laws.passes.GridRuns.{run_lies_inside}
 use Rattle.overlay_split.proofs.laws.passes.Ready.{IsPairInRange-each, IsSortedByKey-is_map}
 use Rattle.overlay_intersections.specs.MarkOf.{marks_of}
+use Rattle.overlay_snapping.proofs.laws.batches.Existence.{cuts_exist}
+use Rattle.overlay_snapping.proofs.laws.chains.MarkLists.{marks_for, cuts_for}
 use Rattle.overlay_snapping.proofs.laws.cuts.ExactMarks.{exact_cuts}
 use Rattle.overlay_snapping.proofs.snap.solver.SnapSolver.find_cuts.Goals as goal
 
@@ -32,10 +34,24 @@ pub find_cuts-requires-clause-in_range : goal.find_cuts-requires-clause-in_range
 find_cuts-requires-clause-in_range g c = IsPairInRange-each c.args.segments.now g.I.OverlayInt.MIN_COORD g.I.OverlayInt.MAX_COORD c.requires.splittable
 
 -- where every crossing is a whole point the marks are the cuts
-pub returns-in_ok-extend_from_slice-clause-cuts : goal.returns-in_ok-extend_from_slice-clause-cuts
-returns-in_ok-extend_from_slice-clause-cuts g c =
+pub returns-clause-cuts : goal.returns-clause-cuts
+returns-clause-cuts g c = λ listed.
     let segments = segments_of c.args.segments.now in
     let marks = marks_of g.I.OverlayInt.whole c.find_marks.new.marks.items in
     let found = c.in_ok-is_rounded.ensures in
-    rw (c.in_ok-extend_from_slice.ensures.items, c.clear.ensures.items, c.as_slice-else-is_rounded.ensures.value)
+    rw (c.in_ok-extend_from_slice.ensures.items, c.clear.ensures.items, c.as_slice.ensures.value)
     (exact_cuts segments marks (are_ordered-map segments c.requires.map) (sym found.rounded ∙ c.if-is_rounded.false) found.marks)
+
+pub returns-clause-has_cuts : goal.returns-clause-has_cuts
+returns-clause-has_cuts g c =
+    let segments = segments_of c.args.segments.now in
+    let marks = marks_of g.I.OverlayInt.whole c.find_marks.new.marks.items in
+    let found = c.in_ok-is_rounded.ensures in
+    let cuts = exact_cuts segments marks (are_ordered-map segments c.requires.map) (sym found.rounded ∙ c.if-is_rounded.false) found.marks in
+    (cuts.decided, (marks_for segments marks 0, cuts_for segments marks cuts))
+
+pub returns-then-is_rounded-clause-has_cuts : goal.returns-then-is_rounded-clause-has_cuts
+returns-then-is_rounded-clause-has_cuts g c =
+    let segments = segments_of c.args.segments.now in
+    let known = c.in_ok-are_listed.ensures.known in
+    (known.decided, cuts_exist segments (are_ordered-map segments c.requires.map) _ known)

@@ -1,0 +1,49 @@
+use Rattle.std.proofs.Common.{◌≡◌, sym, subst, map, ◌++◌, append-nil, arith}
+use Rattle.std.proofs.lemmas.List.{length-map}
+use Rattle.overlay_geometry.specs.Points.{Pair}
+use Rattle.overlay_geometry.specs.PointOf.{point_of}
+use Rattle.overlay_base.specs.SegmentOf.{segment_of, segments_of}
+use Rattle.overlay_base.proofs.laws.joins.Maps.{are_ordered-map}
+use Rattle.overlay_snapping.specs.PointTreeOf.{points_in}
+use Rattle.overlay_snapping.specs.steps.Cutting.{points_along, met_between}
+use Rattle.overlay_snapping.proofs.laws.chains.MarkLists.{pair_at}
+use Rattle.overlay_snapping.proofs.laws.cuts.Between.{cut_at, are_between, cuts_at, added_more, added_all}
+use Rattle.overlay_snapping.proofs.laws.cuts.Ranges.{own_in_range}
+use Rattle.overlay_snapping.proofs.laws.cuts.Reads.{segment_pair}
+use Rattle.overlay_snapping.proofs.snap.cut_finder.CutFinder.append_cuts.Goals as goal
+
+pub collect_between-requires-clause-in_range : goal.collect_between-requires-clause-in_range
+collect_between-requires-clause-in_range g c = rw (c.x_segment-segment.ensures, c.index-segments-index.is) (c.requires.in_range c.args.index c.index-segments-index.result c.requires.index)
+
+pub collect_between-requires-clause-own : goal.collect_between-requires-clause-own
+collect_between-requires-clause-own g c = own_in_range c.args.segments.now c.requires.in_range c.args.index c.args.own.now c.requires.index c.requires.own
+
+pub loop-point-init : goal.loop-point-init
+loop-point-init g c = sym (append-nil c.args.cuts.now.items)
+
+pub loop-point-preserved : goal.loop-point-preserved
+loop-point-preserved g c =
+    added_more c.args.index c.args.cuts.now.items c.loop-point.cuts.items c.push.new.self.items c.deref-point-items.result.now c.loop-point.point-index c.point-item.result c.loop-point-test.true c.point-item.is
+    c.in_ok-push.ensures.items c.loop-point.invariant
+
+pub returns-clause-cuts : goal.returns-clause-cuts
+returns-clause-cuts g c =
+    let whole = g.I.OverlayInt.whole in
+    let xs = c.args.segments.now in
+    let index = c.args.index in
+    let kept = c.dedup.new.self.items in
+    let listed = c.collect_between.new.between.items in
+    let points = points_in c.args.self.now.hot in
+    let own = c.args.own.now in
+    let long = length-map xs (λ s. segment_of s) in
+    let within = c.requires.index in
+    let order = simp g.met.I.OverlayInt.ordered at c.in_ok-sort.ensures.sorted in (
+      map (cut_at index) kept,
+      added_all index c.args.cuts.now.items c.loop-point.cuts.items c.deref-point-items.result.now kept c.loop-point.point-index c.deref-point-items.ensures.value c.loop-point-test.false c.loop-point.invariant,
+      cuts_at xs index kept (λ d.
+          are_between g.I.PartialEq.eq g.I.Ord.cmp whole g.met.I.Ord.matches_eq g.met.I.OverlayInt.ordered g.met.I.OverlayInt.injective (segments_of xs) (are_ordered-map (segments_of xs) c.requires.map) points
+          c.requires.known.hot c.requires.known.decided _ (pair_at (segments_of xs) index d (omega (arith, within, long))) own (c.requires.own d) listed c.sort.new.self.items kept
+          (subst (λ (s : Pair). map (point_of whole) listed ≡ points_along whole s own ++ met_between s points)
+          (sym (segment_pair xs index c.index-segments-index.result c.x_segment-segment.result within c.index-segments-index.is c.x_segment-segment.ensures d)) c.in_ok-collect_between.ensures)
+          c.in_ok-sort.ensures.permutation order c.dedup.ensures.filtered),
+    )
