@@ -1,4 +1,5 @@
 pub mod Builds
+pub mod Codes
 pub mod Handles
 pub mod LinkData
 pub mod Meetings

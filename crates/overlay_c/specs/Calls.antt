@@ -1,5 +1,5 @@
 -- What a call through a handle makes of the engine behind it.
-use Rattle.std.specs.Prelude.{◌≡◌, ◌++◌, ◌∷◌, [], ℕ, Bool, false, List, IsTrue, IsFalse, None, IfSome, map}
+use Rattle.std.specs.Prelude.{◌≡◌, ◌⊎◌, ◌++◌, ◌∷◌, [], ℕ, Bool, false, List, IsTrue, IsFalse, None, IsSome, IfSome, map}
 use Rattle.std.specs.List.{AllZip}
 use Rattle.overlay_base.specs.declared.overlay_core.overlay_rule.OverlayRule.{OverlayRule}
 use Rattle.overlay_base.specs.declared.segm.shape_type.ShapeType.{ShapeType}
@@ -62,11 +62,21 @@ KeepsClipBy settings invert boundary_included records engine =
 abbrev pub SameContours : Engine → Engine → Type 0
 SameContours before after = after.polygons ≡ before.polygons
 
+-- The contours of the last overlay of contours stay, with how many each shape has.
+pub record SameResult (before after : Engine) : Type 0 where
+  pub lengths : after.contour_lengths ≡ before.contour_lengths
+  pub points : after.contour_points ≡ before.contour_points
+  pub shapes : after.shape_lengths ≡ before.shape_lengths
+
 abbrev pub SameShape : ShapeType → Engine → Engine → Type 0
 SameShape shape before after = contours_in after shape ≡ contours_in before shape
 
 abbrev pub AddsContour : ShapeType → List PointRecord → Engine → Engine → Type 0
 AddsContour shape contour before after = contours_in after shape ≡ contours_in before shape ++ map point_by contour ∷ []
+
+-- What a call returns that adds a contour: it did, memory was refused, or a point is out of range.
+abbrev pub IsAddCode : ℕ → Type 0
+IsAddCode code = (code ≡ 0) ⊎ (code ≡ 1) ⊎ (code ≡ 4)
 
 -- The engine keeps the overlay of its contours, by the rule of a code, as contours or in shapes; or a count of theirs
 -- leaves the range.
@@ -87,7 +97,10 @@ KeepsArrangedContoursBy code corners before after = (rule : OverlayRule) × IsRu
 abbrev pub KeepsArrangedShapesBy : ℕ → Bool → Engine → Engine → Type 0
 KeepsArrangedShapesBy code corners before after = (rule : OverlayRule) × IsRuleOf code rule × KeepsArrangedShapes rule corners before after
 
--- No contours are arranged.
+-- Contours are arranged, or none are.
+abbrev pub HasArrangement : Engine → Type 0
+HasArrangement engine = IsSome engine.arrangement
+
 abbrev pub HasNoArrangement : Engine → Type 0
 HasNoArrangement engine = engine.arrangement ≡ None
 

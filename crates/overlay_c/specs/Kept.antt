@@ -1,5 +1,5 @@
 -- What an engine keeps of its last result.
-use Rattle.std.specs.Prelude.{⊤, ◌≡◌, ◌⊎◌, ℕ, ℤ, ◌<◌, ◌^◌, ◌&&◌, Bool, true, List, [], IsTrue, All, map, length}
+use Rattle.std.specs.Prelude.{⊤, ◌≡◌, ◌⊎◌, ℕ, ℤ, ◌<◌, ◌^◌, ◌&&◌, Bool, true, false, List, [], IsTrue, IsFalse, All, map, length}
 use Rattle.std.specs.List.{list_all}
 use Rattle.overlay_geometry.specs.Points.{Pair}
 use Rattle.overlay_base.specs.EdgeData.{DataSegment, without_data}
@@ -54,10 +54,24 @@ pub record KeepsGraph {I : Type 0} {w : _} {o : _} {e : _} {p : _} (core : Core 
   pub links : kept_links core ≡ graph.links
   pub nodes : AreLaid (map (λ n. n.links) graph.nodes) core.degrees.items core.indexes.items
 
--- it has closed walks where they were wanted and an even number of links meets at each node
+-- it keeps no walks
+pub record HasNoWalks {I : Type 0} {w : _} {o : _} {e : _} {p : _} (core : Core I w o e p) : Type 0 where
+  pub has_walks : core.has_walks ≡ false
+  pub lengths : core.walk_lengths.items ≡ []
+  pub links : core.walk_links.items ≡ []
+
+-- it keeps no graph: no links, no nodes, no walks
+pub record HasNoGraph {I : Type 0} {w : _} {o : _} {e : _} {p : _} (core : Core I w o e p) : Type 0 where
+  pub links : core.links.items ≡ []
+  pub degrees : core.degrees.items ≡ []
+  pub indexes : core.indexes.items ≡ []
+  pub walks : HasNoWalks core
+
+-- it has closed walks where they were wanted and an even number of links meets at each node, and else none
 pub record KeepsWalks {I : Type 0} {w : _} {o : _} {e : _} {p : _} (asked : Bool) (core : Core I w o e p) (graph : Graph) : Type 0 where
   pub has_walks : core.has_walks ≡ (asked && has_even_nodes graph)
   pub walks : IsTrue core.has_walks → ((walks : List (List ℕ)) × AreClosedWalks graph.links walks × AreLaid walks core.walk_lengths.items core.walk_links.items)
+  pub no_walks : IsFalse core.has_walks → HasNoWalks core
 
 -- what a run of the engine is set to
 abbrev pub engine_settings : {I : Type 0} {w : _} {o : _} {e : _} {p : _} → SettingsRecord → Core I w o e p → Settings
@@ -138,6 +152,12 @@ IsBuildRefusal segments (Refused Memory) = ⊤
 IsBuildRefusal segments (Refused CountOutOfRange) = IsTrue (tops_leave_range segments)
 IsBuildRefusal segments NotSplittable = ⊥
 IsBuildRefusal segments OutOfRange = ⊥
+
+-- a call that is given segments or lines is refused for no contour
+abbrev pub IsSplitRefusal : Refusal → Type 0
+IsSplitRefusal (Refused fault) = ⊤
+IsSplitRefusal NotSplittable = ⊤
+IsSplitRefusal OutOfRange = ⊥
 
 -- what is left after a refusal: nothing, or what the split leaves
 abbrev pub StandsAfter : {I : Type 0} {w : _} {o : _} {e : _} {p : _} → SettingsRecord → List WholeSegment → Core I w o e p → Type 0

@@ -11,7 +11,7 @@ use Rattle.overlay_split.specs.Run.{LeavesRange}
 use Rattle.overlay_split.specs.SettingsOf.{snap_limit_of}
 use Rattle.overlay_sweep.specs.ChainWindings.{tops_leave_range}
 use Rattle.overlay_build.specs.Graph.{Link}
-use Rattle.overlay_c.specs.Kept.{engine_settings, kept_links, TellsSizes, KeepsSplit, BuildsAll, KeepsOverlay, KeepsData, KeepsClip, StandsAfter, LinesStandAfter, IsCountRefused, IsCountOfLinesRefused}
+use Rattle.overlay_c.specs.Kept.{engine_settings, kept_links, TellsSizes, KeepsSplit, BuildsAll, KeepsOverlay, KeepsData, KeepsClip, HasNoWalks, HasNoGraph, StandsAfter, LinesStandAfter, IsCountRefused, IsCountOfLinesRefused}
 use Rattle.overlay_c.specs.declared.records.LinkRecord.{LinkRecord}
 use Rattle.overlay_c.specs.declared.records.SettingsRecord.{SettingsRecord}
 use Rattle.overlay_c.specs.declared.records.SizesRecord.{SizesRecord}
@@ -66,6 +66,31 @@ LastLeavesRange settings given before after = Pick after.is_narrow (LeavesRange 
 -- the limits of both splitters stay
 abbrev pub SameLimits : Engine → Engine → Type 0
 SameLimits before after = (snap_limit_of after.narrow.splitter ≡ snap_limit_of before.narrow.splitter) × (snap_limit_of after.wide.splitter ≡ snap_limit_of before.wide.splitter)
+
+-- the core that the call does not take stays
+abbrev pub SameOther : Engine → Engine → Type 0
+SameOther before after = Pick after.is_narrow (after.wide ≡ before.wide) (after.narrow ≡ before.narrow)
+
+-- the arrangements of segments stay, or those of polygons and lines
+abbrev pub SameArrangements : Engine → Engine → Type 0
+SameArrangements before after = (after.narrow.segments ≡ before.narrow.segments) × (after.wide.segments ≡ before.wide.segments)
+
+abbrev pub SameLines : Engine → Engine → Type 0
+SameLines before after = (after.narrow.lines ≡ before.narrow.lines) × (after.wide.lines ≡ before.wide.lines)
+
+-- the data of links stays, or whether the last split or join changed what it was given
+abbrev pub SameData : Engine → Engine → Type 0
+SameData before after = (after.narrow.link_data ≡ before.narrow.link_data) × (after.wide.link_data ≡ before.wide.link_data)
+
+abbrev pub SameChange : Engine → Engine → Type 0
+SameChange before after = (after.narrow.has_changed ≡ before.narrow.has_changed) × (after.wide.has_changed ≡ before.wide.has_changed)
+
+-- the core of the last call keeps no walks, or no graph
+abbrev pub LastHasNoWalks : Engine → Type 0
+LastHasNoWalks engine = Pick engine.is_narrow (HasNoWalks engine.narrow) (HasNoWalks engine.wide)
+
+abbrev pub LastHasNoGraph : Engine → Type 0
+LastHasNoGraph engine = Pick engine.is_narrow (HasNoGraph engine.narrow) (HasNoGraph engine.wide)
 
 -- how much the core of the last call keeps
 abbrev pub LastTellsSizes : Engine → SizesRecord → Type 0

@@ -1,13 +1,13 @@
 // What splits segments and builds graphs, for coordinates of one width: a splitter, builders, and
 // the records of their last results.
-ghost use Rattle.std.specs.Prelude.{◌≡◌, ◌≢◌, [], true, IsTrue, IsFalse, OnOk, OnErr, IfOk, IfErr, map, length, flat_map};
+ghost use Rattle.std.specs.Prelude.{◌≡◌, ◌≢◌, [], true, false, IsTrue, IsFalse, OnOk, OnErr, IfOk, IfErr, map, length, flat_map};
 ghost use Rattle.std.specs.List.{list_all};
 ghost use Rattle.overlay_base.specs.ArrangedOf.{IsSplittable};
 ghost use Rattle.overlay_base.specs.SegmentOf.{segments_of};
 ghost use Rattle.overlay_base.specs.declared.segm.fault.Fault.TheVariants.{CountOutOfRange};
 ghost use Rattle.overlay_build.specs.GraphOf.{link_of};
 ghost use Rattle.overlay_build.specs.NodeIndexes.{indexes_of};
-ghost use Rattle.overlay_c.specs.Kept.{given_by, are_usable, are_lines_usable};
+ghost use Rattle.overlay_c.specs.Kept.{given_by, are_usable, are_lines_usable, IsSplitRefusal};
 ghost use Rattle.overlay_c.specs.Records.{asks, asked_by, line_asked_by};
 ghost use Rattle.overlay_c.specs.Status.{OnUnusable, OnTooLarge};
 ghost use Rattle.overlay_c.specs.declared.refusal.Refusal.TheVariants.{Refused, NotSplittable};
@@ -70,13 +70,12 @@ pub struct Core<I: Width> {
 }
 
 impl<I: Width> Core<I> {
-    ghost use Rattle.std.specs.Prelude.{false};
     ghost use Rattle.overlay_base.specs.ArrangedOf.{IsArranged};
     ghost use Rattle.overlay_base.specs.Join.{join, join_leaves_range, has_equal_pairs};
     ghost use Rattle.overlay_split.specs.Run.{LeavesRange};
     ghost use Rattle.overlay_split.specs.SettingsOf.{snap_limit_of};
     ghost use Rattle.overlay_c.specs.Tags.{untagged, tagged_by};
-    ghost use Rattle.overlay_c.specs.Kept.{engine_settings, TellsSizes, KeepsData, KeepsSplit, BuildsAll, KeepsOverlay, KeepsClip, IsCountRefused, IsBuildRefusal, IsCountOfLinesRefused, StandsAfter, LinesStandAfter};
+    ghost use Rattle.overlay_c.specs.Kept.{engine_settings, TellsSizes, KeepsData, KeepsSplit, BuildsAll, KeepsOverlay, KeepsClip, HasNoWalks, HasNoGraph, IsCountRefused, IsBuildRefusal, IsCountOfLinesRefused, StandsAfter, LinesStandAfter};
 
     /// A core, which takes no memory yet.
     pub fn new(alloc: Global, snap_limit: u32) -> Core<I>
@@ -119,10 +118,19 @@ impl<I: Width> Core<I> {
         ensures kept { OnOk result (KeepsOverlay settings.now rule walks (given_by given.now) self.new) }
         ensures usable { OnOk result (IsTrue (are_usable (I.whole I.MIN_COORD) (I.whole I.MAX_COORD) given.now)) }
         ensures unusable { OnUnusable result (IsFalse (are_usable (I.whole I.MIN_COORD) (I.whole I.MAX_COORD) given.now)) }
+        ensures refused { IfErr result IsSplitRefusal }
         ensures too_large { OnTooLarge result (IsCountRefused settings.now (given_by given.now) self.old self.new) }
         ensures stands { OnErr result (StandsAfter settings.now (given_by given.now) self.new) }
         ensures limit { snap_limit_of self.new.splitter ≡ snap_limit_of self.old.splitter }
+        ensures lines { self.new.lines ≡ self.old.lines }
+        ensures link_data { self.new.link_data ≡ self.old.link_data }
+        ensures has_changed { self.new.has_changed ≡ self.old.has_changed }
     {
+        drop_walks(
+            &mut self.has_walks,
+            &mut self.walk_lengths,
+            &mut self.walk_links,
+        );
         load_splittable(given, &mut self.segments)?;
         let solver = solver(settings);
         let fill_rule = fill_rule(settings.fill_rule);
@@ -156,10 +164,18 @@ impl<I: Width> Core<I> {
         ensures usable { OnOk result (IsTrue (are_usable (I.whole I.MIN_COORD) (I.whole I.MAX_COORD)
             (untagged given.now))) }
         ensures unusable { OnUnusable result (IsFalse (are_usable (I.whole I.MIN_COORD) (I.whole I.MAX_COORD) (untagged given.now))) }
+        ensures refused { IfErr result IsSplitRefusal }
         ensures too_large { OnTooLarge result (IsCountRefused settings.now (given_by (untagged given.now)) self.old self.new) }
         ensures stands { OnErr result (StandsAfter settings.now (given_by (untagged given.now)) self.new) }
         ensures limit { snap_limit_of self.new.splitter ≡ snap_limit_of self.old.splitter }
+        ensures lines { self.new.lines ≡ self.old.lines }
+        ensures has_changed { self.new.has_changed ≡ self.old.has_changed }
     {
+        drop_walks(
+            &mut self.has_walks,
+            &mut self.walk_lengths,
+            &mut self.walk_links,
+        );
         self.segments.clear();
         tags::load_splittable(given, &mut self.tagged)?;
         let solver = solver(settings);
@@ -177,11 +193,10 @@ impl<I: Width> Core<I> {
             &mut self.degrees,
             &mut self.indexes,
         )?;
-        self.has_walks = false;
         Ok(())
     }
 
-    /// Splits the segments that records describe, and keeps the arrangement.
+    /// Splits the segments that records describe, and keeps the arrangement, and no graph.
     pub fn split(
         &mut self,
         given: &[SegmentRecord],
@@ -191,10 +206,22 @@ impl<I: Width> Core<I> {
         ensures arranged { OnOk result (IsArranged self.new.segments.items) }
         ensures usable { OnOk result (IsTrue (are_usable (I.whole I.MIN_COORD) (I.whole I.MAX_COORD) given.now)) }
         ensures unusable { OnUnusable result (IsFalse (are_usable (I.whole I.MIN_COORD) (I.whole I.MAX_COORD) given.now)) }
+        ensures refused { IfErr result IsSplitRefusal }
         ensures too_large { OnTooLarge result (LeavesRange (engine_settings settings.now self.old) (given_by given.now)) }
         ensures emptied { OnErr result (self.new.segments.items ≡ []) }
         ensures limit { snap_limit_of self.new.splitter ≡ snap_limit_of self.old.splitter }
+        ensures no_graph { HasNoGraph self.new }
+        ensures lines { self.new.lines ≡ self.old.lines }
+        ensures link_data { self.new.link_data ≡ self.old.link_data }
     {
+        drop_walks(
+            &mut self.has_walks,
+            &mut self.walk_lengths,
+            &mut self.walk_links,
+        );
+        self.links.clear();
+        self.degrees.clear();
+        self.indexes.clear();
         load_splittable(given, &mut self.segments)?;
         let solver = solver(settings);
         self.has_changed = self.splitter.split_segments(&mut self.segments, &solver)?;
@@ -216,10 +243,18 @@ impl<I: Width> Core<I> {
         ensures built { OnOk result (BuildsAll settings.now links.new self.new) }
         ensures refused { IfErr result (IsBuildRefusal (segments_of self.old.segments.items)) }
         ensures no_links { self.new.links.items ≡ [] }
+        ensures no_walks { HasNoWalks self.new }
+        ensures lines { self.new.lines ≡ self.old.lines }
+        ensures link_data { self.new.link_data ≡ self.old.link_data }
         ensures segments { self.new.segments ≡ self.old.segments }
         ensures splitter { self.new.splitter ≡ self.old.splitter }
         ensures has_changed { self.new.has_changed ≡ self.old.has_changed }
     {
+        drop_walks(
+            &mut self.has_walks,
+            &mut self.walk_lengths,
+            &mut self.walk_links,
+        );
         self.links.clear();
         let solver = solver(settings);
         let fill_rule = fill_rule(settings.fill_rule);
@@ -230,16 +265,28 @@ impl<I: Width> Core<I> {
         Ok(())
     }
 
-    /// Joins the segments on each pair of ends, and keeps them.
+    /// Joins the segments on each pair of ends, and keeps them, and no graph.
     pub fn join(&mut self, given: &[SegmentRecord]) -> Result<(), Refusal>
         ensures joined { OnOk result (segments_of self.new.segments.items ≡ join (given_by given.now)) }
         ensures repeated { OnOk result (self.new.has_changed ≡ has_equal_pairs (given_by given.now)) }
         ensures usable { OnOk result (IsTrue (are_usable (I.whole I.MIN_COORD) (I.whole I.MAX_COORD) given.now)) }
         ensures unusable { OnUnusable result (IsFalse (are_usable (I.whole I.MIN_COORD) (I.whole I.MAX_COORD) given.now)) }
+        ensures refused { IfErr result IsSplitRefusal }
         ensures too_large { OnTooLarge result (IsTrue (join_leaves_range (given_by given.now))) }
         ensures emptied { OnErr result (self.new.segments.items ≡ []) }
         ensures splitter { self.new.splitter ≡ self.old.splitter }
+        ensures no_graph { HasNoGraph self.new }
+        ensures lines { self.new.lines ≡ self.old.lines }
+        ensures link_data { self.new.link_data ≡ self.old.link_data }
     {
+        drop_walks(
+            &mut self.has_walks,
+            &mut self.walk_lengths,
+            &mut self.walk_links,
+        );
+        self.links.clear();
+        self.degrees.clear();
+        self.indexes.clear();
         load_splittable(given, &mut self.segments)?;
         self.has_changed = join_with_store(&mut self.segments, &mut ())?;
         Ok(())
@@ -256,10 +303,20 @@ impl<I: Width> Core<I> {
         ensures kept { OnOk result (KeepsClip settings.now rule (map line_asked_by given.now) self.new) }
         ensures usable { OnOk result (IsTrue (are_lines_usable (I.whole I.MIN_COORD) (I.whole I.MAX_COORD) given.now)) }
         ensures unusable { OnUnusable result (IsFalse (are_lines_usable (I.whole I.MIN_COORD) (I.whole I.MAX_COORD) given.now)) }
+        ensures refused { IfErr result IsSplitRefusal }
         ensures too_large { OnTooLarge result (IsCountOfLinesRefused settings.now (map line_asked_by given.now) self.old self.new) }
         ensures stands { OnErr result (LinesStandAfter settings.now (map line_asked_by given.now) self.new) }
         ensures limit { snap_limit_of self.new.splitter ≡ snap_limit_of self.old.splitter }
+        ensures no_walks { HasNoWalks self.new }
+        ensures segments { self.new.segments ≡ self.old.segments }
+        ensures link_data { self.new.link_data ≡ self.old.link_data }
+        ensures has_changed { self.new.has_changed ≡ self.old.has_changed }
     {
+        drop_walks(
+            &mut self.has_walks,
+            &mut self.walk_lengths,
+            &mut self.walk_links,
+        );
         load_splittable_lines(given, &mut self.lines)?;
         let solver = solver(settings);
         let fill_rule = fill_rule(settings.fill_rule);
@@ -310,6 +367,7 @@ fn load_splittable<I: Width>(
     ensures usable { OnOk result (IsTrue (are_usable (I.whole I.MIN_COORD) (I.whole I.MAX_COORD) given.now)) }
     ensures unusable { OnUnusable result (IsFalse (are_usable (I.whole I.MIN_COORD) (I.whole I.MAX_COORD) given.now)) }
     ensures no_count { IfErr result (λ refusal. refusal ≢ Refused CountOutOfRange) }
+    ensures refused { IfErr result IsSplitRefusal }
     ensures emptied { OnErr result (list.new.items ≡ []) }
 {
     let loaded = try_load(given, list);
@@ -329,6 +387,7 @@ fn try_load<I: Width>(
     ensures usable { OnOk result (IsTrue (are_usable (I.whole I.MIN_COORD) (I.whole I.MAX_COORD) given.now)) }
     ensures unusable { OnUnusable result (IsFalse (are_usable (I.whole I.MIN_COORD) (I.whole I.MAX_COORD) given.now)) }
     ensures no_count { IfErr result (λ refusal. refusal ≢ Refused CountOutOfRange) }
+    ensures refused { IfErr result IsSplitRefusal }
 {
     if !load(given, list)? {
         return Err(Refusal::NotSplittable);
@@ -346,6 +405,7 @@ fn load_splittable_lines<I: Width>(
     ensures usable { OnOk result (IsTrue (are_lines_usable (I.whole I.MIN_COORD) (I.whole I.MAX_COORD) given.now)) }
     ensures unusable { OnUnusable result (IsFalse (are_lines_usable (I.whole I.MIN_COORD) (I.whole I.MAX_COORD) given.now)) }
     ensures no_count { IfErr result (λ refusal. refusal ≢ Refused CountOutOfRange) }
+    ensures refused { IfErr result IsSplitRefusal }
     ensures emptied { OnErr result (list.new.items ≡ []) }
 {
     let loaded = try_load_lines(given, list);
@@ -362,6 +422,7 @@ fn try_load_lines<I: Width>(given: &[LineRecord], list: &mut Vec<Line<I>>) -> Re
     ensures usable { OnOk result (IsTrue (are_lines_usable (I.whole I.MIN_COORD) (I.whole I.MAX_COORD) given.now)) }
     ensures unusable { OnUnusable result (IsFalse (are_lines_usable (I.whole I.MIN_COORD) (I.whole I.MAX_COORD) given.now)) }
     ensures no_count { IfErr result (λ refusal. refusal ≢ Refused CountOutOfRange) }
+    ensures refused { IfErr result IsSplitRefusal }
 {
     if !lines::load(given, list)? {
         return Err(Refusal::NotSplittable);
@@ -386,6 +447,17 @@ pub fn load<I: Width>(
         }
     }
     Ok(true)
+}
+
+/// Drops the walks of an earlier call.
+fn drop_walks(has_walks: &mut bool, lengths: &mut Vec<usize>, links: &mut Vec<usize>)
+    ensures has_walks { has_walks.new ≡ false }
+    ensures lengths { lengths.new.items ≡ [] }
+    ensures links { links.new.items ≡ [] }
+{
+    *has_walks = false;
+    lengths.clear();
+    links.clear();
 }
 
 /// Keeps links without their data.

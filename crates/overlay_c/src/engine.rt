@@ -1,6 +1,6 @@
 // The engine behind a handle: what splits and builds, and what overlays contours.
-ghost use Rattle.std.specs.Prelude.{◌≡◌, ◌∷◌, ◌++◌, [], false, None, IsTrue, IsFalse, OnOk, OnErr, IfErr, map, length};
-ghost use Rattle.overlay_c.specs.Calls.{KeepsRulesBy, MaySplit, MayNotSplit, MaySplitLines, MayNotSplitLines};
+ghost use Rattle.std.specs.Prelude.{◌≡◌, ◌∷◌, ◌++◌, [], false, None, IsTrue, IsFalse, IfSome, OnOk, OnErr, IfErr, map, length};
+ghost use Rattle.overlay_c.specs.Calls.{KeepsRulesBy, SameResult, HasArrangement, HasNoArrangement, MaySplit, MayNotSplit, MaySplitLines, MayNotSplitLines};
 ghost use Rattle.overlay_c.specs.Status.{OnUnusable, OnTooLarge};
 
 use crate::contours::{PointRecord, keep_contours, keep_shapes, load_points, location_code, point};
@@ -49,16 +49,16 @@ pub struct Engine {
 impl Engine {
     ghost use Rattle.overlay_split.specs.SettingsOf.{snap_limit_of};
     ghost use Rattle.overlay_base.specs.Join.{join, join_leaves_range, has_equal_pairs};
-    ghost use Rattle.overlay_c.specs.Kept.{given_by, IsBuildRefusal, are_usable, are_lines_usable};
+    ghost use Rattle.overlay_c.specs.Kept.{given_by, IsBuildRefusal, IsSplitRefusal, are_usable, are_lines_usable};
     ghost use Rattle.overlay_c.specs.Records.{line_asked_by, told_by, line_told_by, link_by, names_narrow, number_by};
     ghost use Rattle.overlay_c.specs.Tags.{untagged, tagged_by};
-    ghost use Rattle.overlay_c.specs.Widths.{least_of, greatest_of, LastKeepsSplit, IsLastArranged, LastBuildsAll, SameSegments, LastKeepsOverlay, LastKeepsData, LastKeepsClip, LastStandsAfter, LastLinesStandAfter, LastIsCountRefused, LastIsCountOfLinesRefused, LastLeavesRange, SameLimits, LastTellsSizes, segment_count, line_count, link_count, segments_in, lines_in, has_changed_in, links_in, link_data_in, degrees_in, indexes_in, walk_lengths_in, walk_links_in};
+    ghost use Rattle.overlay_c.specs.Widths.{least_of, greatest_of, LastKeepsSplit, IsLastArranged, LastBuildsAll, SameSegments, LastKeepsOverlay, LastKeepsData, LastKeepsClip, LastStandsAfter, LastLinesStandAfter, LastIsCountRefused, LastIsCountOfLinesRefused, LastLeavesRange, SameLimits, SameOther, SameArrangements, SameLines, SameData, SameChange, LastHasNoWalks, LastHasNoGraph, LastTellsSizes, segment_count, line_count, link_count, segments_in, lines_in, has_changed_in, links_in, link_data_in, degrees_in, indexes_in, walk_lengths_in, walk_links_in};
     ghost use Rattle.overlay_base.specs.declared.segm.shape_type.ShapeType.TheVariants.{Subject, Clip};
     ghost use Rattle.overlay_contours.specs.Kept.{passes_of, reach_of};
     ghost use Rattle.overlay_contours.specs.Refusals.{other_shape};
     ghost use Rattle.overlay_c.specs.Contours.{point_by, are_in_range, location_code, contours_in, IsPointRefusal, IsPolygonRefusal};
     ghost use Rattle.overlay_c.specs.Contours.{KeepsPolygons, KeepsShapes, SameSplit, SameReport};
-    ghost use Rattle.overlay_c.specs.Arranged.{KeepsArrangement, KeepsArrangedContours, KeepsArrangedShapes, IsArrangedRefusal, SameArrangement};
+    ghost use Rattle.overlay_c.specs.Arranged.{KeepsArrangement, KeepsArrangedContours, KeepsArrangedShapes, IsArrangedRefusal, SameArrangement, IsReportOf, IsReportOfNothing};
 
     /// An engine, which takes no memory yet.
     pub fn new(alloc: Global, snap_limit: u32) -> Engine
@@ -96,10 +96,17 @@ impl Engine {
         ensures kept { OnOk result (LastKeepsOverlay settings.now rule walks (given_by given.now) self.new) }
         ensures usable { OnOk result (MaySplit given.now self.new) }
         ensures unusable { OnUnusable result (MayNotSplit given.now self.new) }
+        ensures refused { IfErr result IsSplitRefusal }
         ensures too_large { OnTooLarge result (LastIsCountRefused settings.now (given_by given.now) self.old self.new) }
         ensures stands { OnErr result (LastStandsAfter settings.now (given_by given.now) self.new) }
         ensures limit { SameLimits self.old self.new }
+        ensures lines { SameLines self.old self.new }
+        ensures link_data { SameData self.old self.new }
+        ensures has_changed { SameChange self.old self.new }
+        ensures other { SameOther self.old self.new }
         ensures contours { self.new.polygons ≡ self.old.polygons }
+        ensures arrangement { self.new.arrangement ≡ self.old.arrangement }
+        ensures result { SameResult self.old self.new }
     {
         if is_narrow(settings.engine) {
             self.is_narrow = true;
@@ -122,10 +129,16 @@ impl Engine {
         ensures kept_data { OnOk result (LastKeepsData settings.now rule (tagged_by given.now) self.new) }
         ensures usable { OnOk result (MaySplit (untagged given.now) self.new) }
         ensures unusable { OnUnusable result (MayNotSplit (untagged given.now) self.new) }
+        ensures refused { IfErr result IsSplitRefusal }
         ensures too_large { OnTooLarge result (LastIsCountRefused settings.now (given_by (untagged given.now)) self.old self.new) }
         ensures stands { OnErr result (LastStandsAfter settings.now (given_by (untagged given.now)) self.new) }
         ensures limit { SameLimits self.old self.new }
+        ensures lines { SameLines self.old self.new }
+        ensures has_changed { SameChange self.old self.new }
+        ensures other { SameOther self.old self.new }
         ensures contours { self.new.polygons ≡ self.old.polygons }
+        ensures arrangement { self.new.arrangement ≡ self.old.arrangement }
+        ensures result { SameResult self.old self.new }
     {
         if is_narrow(settings.engine) {
             self.is_narrow = true;
@@ -147,10 +160,17 @@ impl Engine {
         ensures arranged { OnOk result (IsLastArranged self.new) }
         ensures usable { OnOk result (MaySplit given.now self.new) }
         ensures unusable { OnUnusable result (MayNotSplit given.now self.new) }
+        ensures refused { IfErr result IsSplitRefusal }
         ensures too_large { OnTooLarge result (LastLeavesRange settings.now (given_by given.now) self.old self.new) }
         ensures emptied { OnErr result (segments_in self.new ≡ []) }
         ensures limit { SameLimits self.old self.new }
+        ensures no_graph { LastHasNoGraph self.new }
+        ensures lines { SameLines self.old self.new }
+        ensures link_data { SameData self.old self.new }
+        ensures other { SameOther self.old self.new }
         ensures contours { self.new.polygons ≡ self.old.polygons }
+        ensures arrangement { self.new.arrangement ≡ self.old.arrangement }
+        ensures result { SameResult self.old self.new }
     {
         if is_narrow(settings.engine) {
             self.is_narrow = true;
@@ -175,7 +195,14 @@ impl Engine {
         ensures no_links { links_in self.new ≡ [] }
         ensures segments { SameSegments self.old self.new }
         ensures limit { SameLimits self.old self.new }
+        ensures no_walks { LastHasNoWalks self.new }
+        ensures lines { SameLines self.old self.new }
+        ensures link_data { SameData self.old self.new }
+        ensures has_changed { SameChange self.old self.new }
+        ensures other { SameOther self.old self.new }
         ensures contours { self.new.polygons ≡ self.old.polygons }
+        ensures arrangement { self.new.arrangement ≡ self.old.arrangement }
+        ensures result { SameResult self.old self.new }
     {
         if self.is_narrow {
             self.narrow.build(alloc, settings, links)
@@ -191,10 +218,17 @@ impl Engine {
         ensures repeated { OnOk result (has_changed_in self.new ≡ has_equal_pairs (given_by given.now)) }
         ensures usable { OnOk result (MaySplit given.now self.new) }
         ensures unusable { OnUnusable result (MayNotSplit given.now self.new) }
+        ensures refused { IfErr result IsSplitRefusal }
         ensures too_large { OnTooLarge result (IsTrue (join_leaves_range (given_by given.now))) }
         ensures emptied { OnErr result (segments_in self.new ≡ []) }
         ensures limit { SameLimits self.old self.new }
+        ensures no_graph { LastHasNoGraph self.new }
+        ensures lines { SameLines self.old self.new }
+        ensures link_data { SameData self.old self.new }
+        ensures other { SameOther self.old self.new }
         ensures contours { self.new.polygons ≡ self.old.polygons }
+        ensures arrangement { self.new.arrangement ≡ self.old.arrangement }
+        ensures result { SameResult self.old self.new }
     {
         if is_narrow(engine) {
             self.is_narrow = true;
@@ -216,10 +250,18 @@ impl Engine {
         ensures kept { OnOk result (LastKeepsClip settings.now rule (map line_asked_by given.now) self.new) }
         ensures usable { OnOk result (MaySplitLines given.now self.new) }
         ensures unusable { OnUnusable result (MayNotSplitLines given.now self.new) }
+        ensures refused { IfErr result IsSplitRefusal }
         ensures too_large { OnTooLarge result (LastIsCountOfLinesRefused settings.now (map line_asked_by given.now) self.old self.new) }
         ensures stands { OnErr result (LastLinesStandAfter settings.now (map line_asked_by given.now) self.new) }
         ensures limit { SameLimits self.old self.new }
+        ensures no_walks { LastHasNoWalks self.new }
+        ensures segments { SameArrangements self.old self.new }
+        ensures link_data { SameData self.old self.new }
+        ensures has_changed { SameChange self.old self.new }
+        ensures other { SameOther self.old self.new }
         ensures contours { self.new.polygons ≡ self.old.polygons }
+        ensures arrangement { self.new.arrangement ≡ self.old.arrangement }
+        ensures result { SameResult self.old self.new }
     {
         if is_narrow(settings.engine) {
             self.is_narrow = true;
@@ -363,6 +405,7 @@ impl Engine {
         ensures rest { SameSplit self.old self.new }
         ensures report { SameReport self.old self.new }
         ensures arrangement { self.new.arrangement ≡ self.old.arrangement }
+        ensures result { SameResult self.old self.new }
     {
         load_points(contour, &mut self.points)?;
         self.polygons.add_contour(&self.points, shape_type)?;
@@ -376,6 +419,7 @@ impl Engine {
         ensures subject { contours_in self.new Subject ≡ contours_in self.old Subject }
         ensures clip { contours_in self.new Clip ≡ contours_in self.old Clip }
         ensures rest { SameSplit self.old self.new }
+        ensures arrangement { self.new.arrangement ≡ self.old.arrangement }
     {
         let solver = solver(settings);
         let fill_rule = fill_rule(settings.fill_rule);
@@ -397,6 +441,7 @@ impl Engine {
         ensures subject { contours_in self.new Subject ≡ contours_in self.old Subject }
         ensures clip { contours_in self.new Clip ≡ contours_in self.old Clip }
         ensures rest { SameSplit self.old self.new }
+        ensures arrangement { self.new.arrangement ≡ self.old.arrangement }
     {
         let solver = solver(settings);
         let fill_rule = fill_rule(settings.fill_rule);
@@ -424,6 +469,7 @@ impl Engine {
         ensures subject { contours_in self.new Subject ≡ contours_in self.old Subject }
         ensures clip { contours_in self.new Clip ≡ contours_in self.old Clip }
         ensures rest { SameSplit self.old self.new }
+        ensures arrangement { self.new.arrangement ≡ self.old.arrangement }
     {
         let rules = overlay_rules(alloc, codes)?;
         let solver = solver(settings);
@@ -447,6 +493,7 @@ impl Engine {
         ensures subject { contours_in self.new Subject ≡ contours_in self.old Subject }
         ensures clip { contours_in self.new Clip ≡ contours_in self.old Clip }
         ensures rest { SameSplit self.old self.new }
+        ensures result { SameResult self.old self.new }
         ensures report { SameReport self.old self.new }
     {
         let solver = solver(settings);
@@ -461,6 +508,7 @@ impl Engine {
     /// only corners are wanted.
     pub fn arranged_contours(&mut self, rule: OverlayRule, corners: bool) -> Result<(), Refusal>
         ensures kept { OnOk result (KeepsArrangedContours rule corners self.old self.new) }
+        ensures arranged { OnOk result (HasArrangement self.old) }
         ensures refused { IfErr result (IsArrangedRefusal self.old) }
         ensures arrangement { SameArrangement self.old self.new }
         ensures contours { self.new.polygons ≡ self.old.polygons }
@@ -487,6 +535,7 @@ impl Engine {
     /// only corners are wanted.
     pub fn arranged_shapes(&mut self, rule: OverlayRule, corners: bool) -> Result<(), Refusal>
         ensures kept { OnOk result (KeepsArrangedShapes rule corners self.old self.new) }
+        ensures arranged { OnOk result (HasArrangement self.old) }
         ensures refused { IfErr result (IsArrangedRefusal self.old) }
         ensures arrangement { SameArrangement self.old self.new }
         ensures contours { self.new.polygons ≡ self.old.polygons }
@@ -533,6 +582,23 @@ impl Engine {
         }
     }
 
+    /// What the arrangement that is kept reports of its run, as `report` does; both are 0 where no contours are arranged.
+    pub fn arranged_report(&self) -> ReportRecord
+        ensures report { IfSome self.now.arrangement (IsReportOf result) }
+        ensures none { HasNoArrangement self.now → IsReportOfNothing result }
+    {
+        match &self.arrangement {
+            Some(arrangement) => ReportRecord {
+                passes: words(arrangement.passes()),
+                reach: words(arrangement.reach()),
+            },
+            None => ReportRecord {
+                passes: words(0),
+                reach: words(0),
+            },
+        }
+    }
+
     /// Drops the contours that were added.
     pub fn clear_contours(&mut self)
         ensures subject { contours_in self.new Subject ≡ [] }
@@ -540,6 +606,7 @@ impl Engine {
         ensures rest { SameSplit self.old self.new }
         ensures report { SameReport self.old self.new }
         ensures arrangement { self.new.arrangement ≡ self.old.arrangement }
+        ensures result { SameResult self.old self.new }
     {
         self.polygons.clear();
     }

@@ -5,14 +5,14 @@ ghost use Rattle.std.specs.Prelude.{◌≡◌, ◌≢◌, ◌≤ℤ◌, pos, uns
 ghost use Rattle.overlay_base.specs.Join.{join, join_leaves_range, has_equal_pairs};
 ghost use Rattle.overlay_split.specs.SettingsOf.{snap_limit_of};
 ghost use Rattle.overlay_c.specs.Records.{start_of, end_of, line_asked_by, told_by, line_told_by, link_by, shape_of, fill_rule_of, number_by};
-ghost use Rattle.overlay_c.specs.Calls.{Turns, Leaves, Chooses, MaySplit, MayNotSplit, MaySplitLines, MayNotSplitLines, KeepsOverlayBy, KeepsDataBy, KeepsClipBy, SameContours, SameShape, AddsContour, KeepsPolygonsBy, KeepsShapesBy, KeepsRulesBy, KeepsArrangedContoursBy, KeepsArrangedShapesBy, HasNoArrangement, PolygonCountsLeaveRange};
-ghost use Rattle.overlay_c.specs.Arranged.{KeepsArrangement, SameArrangement, StaysAsArranged};
+ghost use Rattle.overlay_c.specs.Calls.{Turns, Leaves, Chooses, MaySplit, MayNotSplit, MaySplitLines, MayNotSplitLines, KeepsOverlayBy, KeepsDataBy, KeepsClipBy, SameContours, SameResult, SameShape, AddsContour, KeepsPolygonsBy, KeepsShapesBy, KeepsRulesBy, KeepsArrangedContoursBy, KeepsArrangedShapesBy, HasArrangement, HasNoArrangement, IsAddCode, PolygonCountsLeaveRange};
+ghost use Rattle.overlay_c.specs.Arranged.{KeepsArrangement, SameArrangement, StaysAsArranged, IsReportOf, IsReportOfNothing};
 ghost use Rattle.overlay_c.specs.Crosses.{pair_by, cross_by, mask_by};
 ghost use Rattle.overlay_geometry.specs.Coordinates.{least_coordinate, greatest_coordinate, is_pair_in_range};
 ghost use Rattle.overlay_intersections.specs.CrossAnswer.{cross_answer};
 ghost use Rattle.overlay_intersections.specs.Marks.{snapping};
 ghost use Rattle.overlay_c.specs.Kept.{given_by};
-ghost use Rattle.overlay_c.specs.Widths.{LastKeepsSplit, IsLastArranged, LastBuildsAll, LastTopsLeaveRange, SameSegments, LastStandsAfter, LastLinesStandAfter, LastIsCountRefused, LastIsCountOfLinesRefused, LastLeavesRange, LastTellsSizes, SameLimits, segment_count, line_count, link_count, segments_in, lines_in, has_changed_in, links_in, link_data_in, degrees_in, indexes_in, walk_lengths_in, walk_links_in};
+ghost use Rattle.overlay_c.specs.Widths.{LastKeepsSplit, IsLastArranged, LastBuildsAll, LastTopsLeaveRange, SameSegments, LastStandsAfter, LastLinesStandAfter, LastIsCountRefused, LastIsCountOfLinesRefused, LastLeavesRange, LastTellsSizes, SameLimits, SameOther, SameArrangements, SameLines, SameData, SameChange, LastHasNoWalks, LastHasNoGraph, segment_count, line_count, link_count, segments_in, lines_in, has_changed_in, links_in, link_data_in, degrees_in, indexes_in, walk_lengths_in, walk_links_in};
 ghost use Rattle.overlay_c.specs.Tags.{untagged, tagged_by};
 ghost use Rattle.overlay_base.specs.declared.segm.shape_type.ShapeType.TheVariants.{Subject, Clip};
 ghost use Rattle.overlay_contours.specs.Kept.{passes_of, reach_of};
@@ -54,6 +54,7 @@ pub extern "C" fn overlay_c_new(alloc: Global, handle: &mut Handle, snap_limit: 
     ensures subject { IfSome handle.new.engine (λ engine. contours_in engine Subject ≡ []) }
     ensures clip { IfSome handle.new.engine (λ engine. contours_in engine Clip ≡ []) }
     ensures passes { IfSome handle.new.engine (λ engine. passes_of engine.polygons ≡ 0) }
+    ensures arrangement { IfSome handle.new.engine HasNoArrangement }
     ensures reach { IfSome handle.new.engine (λ engine. reach_of engine.polygons ≡ 0) }
 {
     match Box::new(alloc, Engine::new(alloc, snap_limit)) {
@@ -95,7 +96,14 @@ pub extern "C" fn overlay_c_overlay(
     ensures too_large { result ≡ 2 → Turns handle.old handle.new (LastIsCountRefused settings.now (given_by given.now)) }
     ensures stands { result ≢ 0 → Leaves handle.new (LastStandsAfter settings.now (given_by given.now)) }
     ensures limit { Turns handle.old handle.new SameLimits }
+    ensures codes { result < 4 }
+    ensures lines { Turns handle.old handle.new SameLines }
+    ensures link_data { Turns handle.old handle.new SameData }
+    ensures has_changed { Turns handle.old handle.new SameChange }
+    ensures other { Turns handle.old handle.new SameOther }
     ensures contours { Turns handle.old handle.new SameContours }
+    ensures arrangement { Turns handle.old handle.new StaysAsArranged }
+    ensures result { Turns handle.old handle.new SameResult }
 {
     let mut engine = take(alloc, handle);
     let outcome = engine.overlay(alloc, given, settings, overlay_rule(rule), walks);
@@ -123,7 +131,13 @@ pub extern "C" fn overlay_c_overlay_with_data(
     ensures too_large { result ≡ 2 → Turns handle.old handle.new (LastIsCountRefused settings.now (given_by (untagged given.now))) }
     ensures stands { result ≢ 0 → Leaves handle.new (LastStandsAfter settings.now (given_by (untagged given.now))) }
     ensures limit { Turns handle.old handle.new SameLimits }
+    ensures codes { result < 4 }
+    ensures lines { Turns handle.old handle.new SameLines }
+    ensures has_changed { Turns handle.old handle.new SameChange }
+    ensures other { Turns handle.old handle.new SameOther }
     ensures contours { Turns handle.old handle.new SameContours }
+    ensures arrangement { Turns handle.old handle.new StaysAsArranged }
+    ensures result { Turns handle.old handle.new SameResult }
 {
     let mut engine = take(alloc, handle);
     let outcome = engine.overlay_with_data(given, settings, overlay_rule(rule));
@@ -131,7 +145,7 @@ pub extern "C" fn overlay_c_overlay_with_data(
     status(outcome)
 }
 
-/// The split of the segments that records describe. Returns as `overlay_c_overlay` does.
+/// The split of the segments that records describe, without a graph. Returns as `overlay_c_overlay` does.
 #[unsafe(no_mangle)]
 pub extern "C" fn overlay_c_split(
     alloc: Global,
@@ -149,7 +163,14 @@ pub extern "C" fn overlay_c_split(
     ensures too_large { result ≡ 2 → Turns handle.old handle.new (LastLeavesRange settings.now (given_by given.now)) }
     ensures emptied { result ≢ 0 → IfSome handle.new.engine (λ engine. segments_in engine ≡ []) }
     ensures limit { Turns handle.old handle.new SameLimits }
+    ensures codes { result < 4 }
+    ensures no_graph { Leaves handle.new LastHasNoGraph }
+    ensures lines { Turns handle.old handle.new SameLines }
+    ensures link_data { Turns handle.old handle.new SameData }
+    ensures other { Turns handle.old handle.new SameOther }
     ensures contours { Turns handle.old handle.new SameContours }
+    ensures arrangement { Turns handle.old handle.new StaysAsArranged }
+    ensures result { Turns handle.old handle.new SameResult }
 {
     let mut engine = take(alloc, handle);
     let outcome = engine.split(given, settings);
@@ -159,7 +180,10 @@ pub extern "C" fn overlay_c_split(
 
 /// The graph of all of the arrangement that `overlay_c_split` left where it returned 0: a link for each segment, in their
 /// order. The links are written to records, as many as the segments of `overlay_c_sizes`; the engine keeps the nodes, which
-/// `overlay_c_nodes` copies out, and no links. Of the settings it takes the strategy and the fill rule.
+/// `overlay_c_nodes` copies out, and no links or walks. Of the settings it takes the strategy and the fill rule.
+///
+/// What the engine keeps has to be an arrangement: that of an `overlay_c_split` that returned 0, without another call that
+/// was given segments since.
 ///
 /// Returns 0 where it is done, 1 where memory was refused, and 2 where a winding above a segment leaves the range. The
 /// arrangement stays. After 1 and 2 nothing is promised of records and nodes.
@@ -180,7 +204,14 @@ pub extern "C" fn overlay_c_build(
     ensures no_links { IfSome handle.new.engine (λ engine. links_in engine ≡ []) }
     ensures segments { Turns handle.old handle.new SameSegments }
     ensures limit { Turns handle.old handle.new SameLimits }
+    ensures no_walks { Leaves handle.new LastHasNoWalks }
+    ensures lines { Turns handle.old handle.new SameLines }
+    ensures link_data { Turns handle.old handle.new SameData }
+    ensures has_changed { Turns handle.old handle.new SameChange }
+    ensures other { Turns handle.old handle.new SameOther }
     ensures contours { Turns handle.old handle.new SameContours }
+    ensures arrangement { Turns handle.old handle.new StaysAsArranged }
+    ensures result { Turns handle.old handle.new SameResult }
 {
     let mut engine = take(alloc, handle);
     let outcome = engine.build(alloc, settings, links);
@@ -188,7 +219,7 @@ pub extern "C" fn overlay_c_build(
     status(outcome)
 }
 
-/// The join of the segments that records describe, with the engine that the code of a width names,
+/// The join of the segments that records describe, without a graph, with the engine that the code of a width names,
 /// as in `SettingsRecord`. Returns as `overlay_c_overlay` does. After a refusal the list is empty.
 #[unsafe(no_mangle)]
 pub extern "C" fn overlay_c_join(
@@ -208,7 +239,15 @@ pub extern "C" fn overlay_c_join(
     ensures unusable { result ≡ 3 → Leaves handle.new (MayNotSplit given.now) }
     ensures too_large { result ≡ 2 → IsTrue (join_leaves_range (given_by given.now)) }
     ensures emptied { result ≢ 0 → IfSome handle.new.engine (λ engine. segments_in engine ≡ []) }
+    ensures codes { result < 4 }
+    ensures limit { Turns handle.old handle.new SameLimits }
+    ensures no_graph { Leaves handle.new LastHasNoGraph }
+    ensures lines { Turns handle.old handle.new SameLines }
+    ensures link_data { Turns handle.old handle.new SameData }
+    ensures other { Turns handle.old handle.new SameOther }
     ensures contours { Turns handle.old handle.new SameContours }
+    ensures arrangement { Turns handle.old handle.new StaysAsArranged }
+    ensures result { Turns handle.old handle.new SameResult }
 {
     let mut engine = take(alloc, handle);
     let outcome = engine.join(given, width);
@@ -216,7 +255,7 @@ pub extern "C" fn overlay_c_join(
     status(outcome)
 }
 
-/// The parts of lines that a clip rule keeps. Returns as `overlay_c_overlay` does.
+/// The parts of lines that a clip rule keeps. The arrangement of segments stays, and no walks are kept. Returns as `overlay_c_overlay` does.
 #[unsafe(no_mangle)]
 pub extern "C" fn overlay_c_clip(
     alloc: Global,
@@ -235,7 +274,15 @@ pub extern "C" fn overlay_c_clip(
     ensures too_large { result ≡ 2 → Turns handle.old handle.new (LastIsCountOfLinesRefused settings.now (map line_asked_by given.now)) }
     ensures stands { result ≢ 0 → Leaves handle.new (LastLinesStandAfter settings.now (map line_asked_by given.now)) }
     ensures limit { Turns handle.old handle.new SameLimits }
+    ensures codes { result < 4 }
+    ensures no_walks { Leaves handle.new LastHasNoWalks }
+    ensures segments { Turns handle.old handle.new SameArrangements }
+    ensures link_data { Turns handle.old handle.new SameData }
+    ensures has_changed { Turns handle.old handle.new SameChange }
+    ensures other { Turns handle.old handle.new SameOther }
     ensures contours { Turns handle.old handle.new SameContours }
+    ensures arrangement { Turns handle.old handle.new StaysAsArranged }
+    ensures result { Turns handle.old handle.new SameResult }
 {
     let mut engine = take(alloc, handle);
     let rule = ClipRule {
@@ -266,6 +313,8 @@ pub extern "C" fn overlay_c_add_contour(
     ensures rest { Turns handle.old handle.new SameSplit }
     ensures report { Turns handle.old handle.new SameReport }
     ensures arrangement { Turns handle.old handle.new StaysAsArranged }
+    ensures result { Turns handle.old handle.new SameResult }
+    ensures codes { IsAddCode result }
 {
     let mut engine = take(alloc, handle);
     let outcome = engine.add_contour(contour, shape_type(shape));
@@ -294,6 +343,7 @@ pub extern "C" fn overlay_c_polygons(
     ensures subject { Turns handle.old handle.new (SameShape Subject) }
     ensures clip { Turns handle.old handle.new (SameShape Clip) }
     ensures rest { Turns handle.old handle.new SameSplit }
+    ensures arrangement { Turns handle.old handle.new StaysAsArranged }
 {
     let mut engine = take(alloc, handle);
     let outcome = engine.polygons(settings, overlay_rule(rule));
@@ -319,6 +369,7 @@ pub extern "C" fn overlay_c_shapes(
     ensures subject { Turns handle.old handle.new (SameShape Subject) }
     ensures clip { Turns handle.old handle.new (SameShape Clip) }
     ensures rest { Turns handle.old handle.new SameSplit }
+    ensures arrangement { Turns handle.old handle.new StaysAsArranged }
 {
     let mut engine = take(alloc, handle);
     let outcome = engine.shapes(settings, overlay_rule(rule));
@@ -344,6 +395,7 @@ pub extern "C" fn overlay_c_polygons_by_rules(
     ensures subject { Turns handle.old handle.new (SameShape Subject) }
     ensures clip { Turns handle.old handle.new (SameShape Clip) }
     ensures rest { Turns handle.old handle.new SameSplit }
+    ensures arrangement { Turns handle.old handle.new StaysAsArranged }
 {
     let mut engine = take(alloc, handle);
     let outcome = engine.polygons_by_rules(alloc, settings, rules);
@@ -370,6 +422,7 @@ pub extern "C" fn overlay_c_arrange(
     ensures subject { Turns handle.old handle.new (SameShape Subject) }
     ensures clip { Turns handle.old handle.new (SameShape Clip) }
     ensures rest { Turns handle.old handle.new SameSplit }
+    ensures result { Turns handle.old handle.new SameResult }
     ensures report { Turns handle.old handle.new SameReport }
 {
     let mut engine = take(alloc, handle);
@@ -391,6 +444,7 @@ pub extern "C" fn overlay_c_arranged_contours(
     requires { IsSome handle.old.engine }
     ensures full { IsSome handle.new.engine }
     ensures done { result ≡ 0 → Turns handle.old handle.new (KeepsArrangedContoursBy rule corners) }
+    ensures arranged { result ≡ 0 → IfSome handle.old.engine HasArrangement }
     ensures none { result ≡ 3 → IfSome handle.old.engine HasNoArrangement }
     ensures codes { result < 4 }
     ensures no_count { result ≢ 2 }
@@ -417,6 +471,7 @@ pub extern "C" fn overlay_c_arranged_shapes(
     requires { IsSome handle.old.engine }
     ensures full { IsSome handle.new.engine }
     ensures done { result ≡ 0 → Turns handle.old handle.new (KeepsArrangedShapesBy rule corners) }
+    ensures arranged { result ≡ 0 → IfSome handle.old.engine HasArrangement }
     ensures none { result ≡ 3 → IfSome handle.old.engine HasNoArrangement }
     ensures codes { result < 4 }
     ensures no_count { result ≢ 2 }
@@ -467,6 +522,22 @@ pub extern "C" fn overlay_c_report(alloc: Global, handle: &mut Handle) -> Report
     report
 }
 
+/// What the arrangement that is kept reports of its run: how many passes its split made, and how far these moved edges.
+/// What `overlay_c_arranged_contours` and `overlay_c_arranged_shapes` leave holds at every point that is farther than this
+/// from the edges of the contours that were arranged. Both are 0 where no contours are arranged.
+#[unsafe(no_mangle)]
+pub extern "C" fn overlay_c_arranged_report(alloc: Global, handle: &mut Handle) -> ReportRecord
+    requires { IsSome handle.old.engine }
+    ensures same { handle.new.engine ≡ handle.old.engine }
+    ensures report { IfSome handle.old.engine (λ engine. IfSome engine.arrangement (IsReportOf result)) }
+    ensures none { IfSome handle.old.engine (λ engine. HasNoArrangement engine → IsReportOfNothing result) }
+{
+    let engine = take(alloc, handle);
+    let numbers = engine.arranged_report();
+    put(handle, engine);
+    numbers
+}
+
 /// Drops the contours that were added.
 #[unsafe(no_mangle)]
 pub extern "C" fn overlay_c_clear(alloc: Global, handle: &mut Handle)
@@ -477,6 +548,7 @@ pub extern "C" fn overlay_c_clear(alloc: Global, handle: &mut Handle)
     ensures rest { Turns handle.old handle.new SameSplit }
     ensures report { Turns handle.old handle.new SameReport }
     ensures arrangement { Turns handle.old handle.new StaysAsArranged }
+    ensures result { Turns handle.old handle.new SameResult }
 {
     let mut engine = take(alloc, handle);
     engine.clear_contours();
@@ -485,6 +557,8 @@ pub extern "C" fn overlay_c_clear(alloc: Global, handle: &mut Handle)
 
 /// Where a target and another segment meet, with a squared radius within which a crossing is moved to an end, and,
 /// where all ends lie on one line, which of them lie strictly inside the other segment. The counts do not matter.
+///
+/// All ends have to be in range, the two ends of each segment have to differ, and the squared radius has to be at least 1.
 #[unsafe(no_mangle)]
 pub extern "C" fn overlay_c_cross(
     target: &SegmentRecord,

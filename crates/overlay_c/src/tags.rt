@@ -4,7 +4,7 @@ ghost use Rattle.std.specs.List.{list_all};
 ghost use Rattle.overlay_base.specs.ArrangedOf.{IsSplittable};
 ghost use Rattle.overlay_base.specs.SegmentOf.{segment_of, segments_of, data_segment_of, data_segments_of};
 ghost use Rattle.overlay_base.specs.declared.segm.fault.Fault.TheVariants.{CountOutOfRange};
-ghost use Rattle.overlay_c.specs.Kept.{are_usable};
+ghost use Rattle.overlay_c.specs.Kept.{are_usable, IsSplitRefusal};
 ghost use Rattle.overlay_c.specs.Records.{asks, asked_by};
 ghost use Rattle.overlay_c.specs.Tags.{untagged, tagged_by, with_tag};
 ghost use Rattle.overlay_c.specs.Status.{OnUnusable};
@@ -76,6 +76,7 @@ pub fn load_splittable<I: Width>(
         (untagged given.now))) }
     ensures unusable { OnUnusable result (IsFalse (are_usable (I.whole I.MIN_COORD) (I.whole I.MAX_COORD) (untagged given.now))) }
     ensures no_count { IfErr result (λ refusal. refusal ≢ Refused CountOutOfRange) }
+    ensures refused { IfErr result IsSplitRefusal }
     ensures emptied { OnErr result (list.new.items ≡ []) }
 {
     let loaded = try_load(given, list);
@@ -96,6 +97,7 @@ fn try_load<I: Width>(
         (untagged given.now))) }
     ensures unusable { OnUnusable result (IsFalse (are_usable (I.whole I.MIN_COORD) (I.whole I.MAX_COORD) (untagged given.now))) }
     ensures no_count { IfErr result (λ refusal. refusal ≢ Refused CountOutOfRange) }
+    ensures refused { IfErr result IsSplitRefusal }
 {
     if !load(given, list)? {
         return Err(Refusal::NotSplittable);

@@ -4,7 +4,7 @@ use Rattle.std.specs.Prelude.{◌≢◌, ◌⊎◌, ◌≤◌, length, codes, Bo
 use Rattle.overlay_geometry.specs.Points.{Point}
 use Rattle.overlay_geometry.proofs.laws.geometry.Points.{same_point}
 use Rattle.overlay_text.specs.Numbers.{signed_value}
-use Rattle.polygons.specs.Wkt.{opening, closing, comma, WriteItems, WriteGroup, WritePoint, WriteRing, WritePolygon, geometry_name, WriteListed, WriteBody, WriteGeometry}
+use Rattle.polygons.specs.Wkt.{opening, closing, comma, WriteItems, WriteGroup, EmptyOr, WritePoint, WriteRing, WritePolygon, geometry_name, WriteBody, WriteGeometry}
 
 abbrev pub head_or : List ℕ → List (List ℕ) → List ℕ
 head_or d [] = d
@@ -108,11 +108,22 @@ point_is_one words a b r s h k =
     let y : h.1 ≡ k.1 = ap (λ ws. head_or [] (tail_or ws)) same in
     (same_point a b (h.3.1 ∙ ap signed_value x ∙ sym k.3.1) (h.4.1 ∙ ap signed_value y ∙ sym k.4.1), ap (λ ws. tail_or (tail_or ws)) same)
 
+empty_is_no_opening : codes "EMPTY" ≡ opening → ⊥
+empty_is_no_opening same = let e = ap code_of same in omega (arith, e)
+
+-- `EMPTY` or a group is one
+module _ {A : Type 0} (WriteItem : List (List ℕ) → A → List (List ℕ) → Type 0) (one : IsOne WriteItem) where
+  pub empty_or_is_one : IsOne (EmptyOr WriteItem)
+  empty_or_is_one words a b r s (inl h) (inl k) = (h.1 ∙ sym k.1, ap tail_or (sym h.0 ∙ k.0))
+  empty_or_is_one words a b r s (inl h) (inr k) = absurd (empty_is_no_opening (ap (head_or []) (sym h.0 ∙ k.1)))
+  empty_or_is_one words a b r s (inr h) (inl k) = absurd (empty_is_no_opening (ap (head_or []) (sym k.0 ∙ h.1)))
+  empty_or_is_one words a b r s (inr h) (inr k) = groups_are_one WriteItem one words a b r s h k
+
 pub ring_is_one : IsOne WriteRing
-ring_is_one = groups_are_one WritePoint point_is_one
+ring_is_one = empty_or_is_one WritePoint point_is_one
 
 pub polygon_is_one : IsOne WritePolygon
-polygon_is_one = groups_are_one WriteRing ring_is_one
+polygon_is_one = empty_or_is_one WriteRing ring_is_one
 
 -- ---- what is left is shorter
 
@@ -139,27 +150,17 @@ module _ {A : Type 0} (WriteItem : List (List ℕ) → A → List (List ℕ) →
 pub point_is_shorter : IsShorter WritePoint
 point_is_shorter words p rest h = let e = ap (λ l. length l) h.2 in omega (arith, e)
 
+empty_or_is_shorter : {A : Type 0} (WriteItem : List (List ℕ) → A → List (List ℕ) → Type 0) → IsShorter WriteItem → IsShorter (EmptyOr WriteItem)
+empty_or_is_shorter WriteItem shorter words items rest (inl h) = let e = ap (λ l. length l) h.0 in omega (arith, e)
+empty_or_is_shorter WriteItem shorter words items rest (inr h) = groups_are_shorter WriteItem shorter words items rest h
+
 pub ring_is_shorter : IsShorter WriteRing
-ring_is_shorter = groups_are_shorter WritePoint point_is_shorter
+ring_is_shorter = empty_or_is_shorter WritePoint point_is_shorter
 
 pub polygon_is_shorter : IsShorter WritePolygon
-polygon_is_shorter = groups_are_shorter WriteRing ring_is_shorter
-
--- ---- groups
-
-module _ {A : Type 0} (WriteItem : List (List ℕ) → A → List (List ℕ) → Type 0) (left : List (List ℕ)) where
-  pub no_opening : ((rest : List (List ℕ)) → left ≢ opening ∷ rest) → (items : List A) (rest : List (List ℕ)) → ¬ (WriteGroup WriteItem left items rest)
-  no_opening none items rest h = none h.0 h.1
-
-  pub no_inner : (inner : List (List ℕ)) → left ≡ opening ∷ inner → ((items : List A) (rest : List (List ℕ)) → ¬ (WriteItems WriteItem inner items rest)) → (items : List A) (rest : List (List ℕ)) → ¬ (WriteGroup WriteItem left items rest)
-  no_inner inner opens none items rest h =
-      let same : h.0 ≡ inner = ap tail_or (sym h.1 ∙ opens) in
-      none items rest (subst (λ w. WriteItems WriteItem w items rest) same h.2)
+polygon_is_shorter = empty_or_is_shorter WriteRing ring_is_shorter
 
 -- ---- geometries
-
-empty_is_no_opening : codes "EMPTY" ≡ opening → ⊥
-empty_is_no_opening same = let e = ap code_of same in omega (arith, e)
 
 names_differ : codes "MULTIPOLYGON" ≡ codes "POLYGON" → ⊥
 names_differ same = let e = ap code_of same in omega (arith, e)
@@ -170,19 +171,11 @@ same_name true false e = absurd (names_differ e)
 same_name false true e = absurd (names_differ (sym e))
 same_name false false e = refl
 
-pub listed_is_one : (several : Bool) → IsOne (WriteListed several)
-listed_is_one true words a b r s h k = items_are_one WritePolygon polygon_is_one words a b r s h k
-listed_is_one false words a b r s h k =
-    let same = items_are_one WriteRing ring_is_one words h.0 k.0 r s h.2 k.2 in
-    (h.1 ∙ ap (λ rings. rings ∷ []) same.0 ∙ sym k.1, same.1)
-
 pub body_is_one : (several : Bool) → IsOne (WriteBody several)
-body_is_one several words a b r s (inl h) (inl k) = (h.1 ∙ sym k.1, ap tail_or (sym h.0 ∙ k.0))
-body_is_one several words a b r s (inl h) (inr k) = absurd (empty_is_no_opening (ap (head_or []) (sym h.0 ∙ k.1)))
-body_is_one several words a b r s (inr h) (inl k) = absurd (empty_is_no_opening (ap (head_or []) (sym k.0 ∙ h.1)))
-body_is_one several words a b r s (inr h) (inr k) =
-    let inner : h.0 ≡ k.0 = ap tail_or (sym h.1 ∙ k.1) in
-    listed_is_one several k.0 a b r s (subst (λ w. WriteListed several w a r) inner h.2) k.2
+body_is_one true words a b r s h k = empty_or_is_one WritePolygon polygon_is_one words a b r s h k
+body_is_one false words a b r s h k =
+    let same = polygon_is_one words h.0 k.0 r s h.2 k.2 in
+    (h.1 ∙ ap (λ rings. rings ∷ []) same.0 ∙ sym k.1, same.1)
 
 module _ (words behind : List (List ℕ)) (several : Bool) (named : words ≡ geometry_name several ∷ behind) where
   body_of : (polygons : List (List (List Point))) → WriteGeometry words polygons → WriteBody several behind polygons []

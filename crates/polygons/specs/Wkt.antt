@@ -1,6 +1,7 @@
 -- Polygons as WKT writes them: what a line of the input writes, what is wrong with one, and the line of the output.
 use Rattle.std.specs.Prelude.{◌≡◌, ◌≢◌, ◌⊎◌, ◌==◌, ◌||◌, ℕ, ℤ, pos, int_lt, if◌then◌else◌, Bool, true, false, IsTrue, IsFalse, List, [], ◌∷◌, ◌++◌, codes, flat_map, map, reverse}
 use Rattle.std.specs.List.{list_all}
+use Rattle.std.specs.Char.{to_ascii_uppercase}
 use Rattle.std.specs.Fmt.{signed_decimal}
 use Rattle.overlay_geometry.specs.Points.{Point}
 use Rattle.overlay_base.specs.declared.segm.shape_type.ShapeType.{ShapeType}
@@ -24,11 +25,11 @@ closing = codes ")"
 abbrev pub comma : List ℕ
 comma = codes ","
 
--- a byte, between spaces where it is `(`, `)` or `,`
+-- a byte, a letter as a capital, and between spaces where it is `(`, `)` or `,`
 unfoldable pub spaced_byte : ℕ → List ℕ
-spaced_byte b = if (b == 40) || ((b == 41) || (b == 44)) then 32 ∷ b ∷ 32 ∷ [] else b ∷ []
+spaced_byte b = if (b == 40) || ((b == 41) || (b == 44)) then 32 ∷ b ∷ 32 ∷ [] else to_ascii_uppercase b ∷ []
 
--- the words of a line; each `(`, `)` and `,` is one
+-- the words of a line, in capitals; each `(`, `)` and `,` is one
 abbrev pub wkt_words : List ℕ → List (List ℕ)
 wkt_words line = words_of_line (flat_map spaced_byte line)
 
@@ -43,32 +44,30 @@ WriteItems WriteItem words (item ∷ items) rest =
 abbrev pub WriteGroup : {A : Type 0} → (List (List ℕ) → A → List (List ℕ) → Type 0) → List (List ℕ) → List A → List (List ℕ) → Type 0
 WriteGroup WriteItem words items rest = (inner : List (List ℕ)) × (words ≡ opening ∷ inner) × WriteItems WriteItem inner items rest
 
+-- the same, or `EMPTY` in place of no items
+abbrev pub EmptyOr : {A : Type 0} → (List (List ℕ) → A → List (List ℕ) → Type 0) → List (List ℕ) → List A → List (List ℕ) → Type 0
+EmptyOr WriteItem words items rest = ((words ≡ codes "EMPTY" ∷ rest) × (items ≡ [])) ⊎ WriteGroup WriteItem words items rest
+
 -- The words begin with the coordinates of a point.
 abbrev pub WritePoint : List (List ℕ) → Point → List (List ℕ) → Type 0
 WritePoint words point rest = (x : List ℕ) × (y : List ℕ) × (words ≡ x ∷ y ∷ rest) × WritesNumber x point.x × WritesNumber y point.y
 
 -- points between parentheses, and such rings
 abbrev pub WriteRing : List (List ℕ) → List Point → List (List ℕ) → Type 0
-WriteRing = WriteGroup WritePoint
+WriteRing = EmptyOr WritePoint
 
 abbrev pub WritePolygon : List (List ℕ) → List (List Point) → List (List ℕ) → Type 0
-WritePolygon = WriteGroup WriteRing
+WritePolygon = EmptyOr WriteRing
 
 -- `MULTIPOLYGON` or `POLYGON`
 abbrev pub geometry_name : Bool → List ℕ
 geometry_name true = codes "MULTIPOLYGON"
 geometry_name false = codes "POLYGON"
 
--- The words begin with several polygons, or with the rings of one, up to a `)`.
-abbrev pub WriteListed : Bool → List (List ℕ) → List (List (List Point)) → List (List ℕ) → Type 0
-WriteListed true words polygons rest = WriteItems WritePolygon words polygons rest
-WriteListed false words polygons rest = (rings : List (List Point)) × (polygons ≡ rings ∷ []) × WriteItems WriteRing words rings rest
-
--- The words begin with `EMPTY`, or with these between parentheses.
+-- The words begin with several polygons, or with one.
 abbrev pub WriteBody : Bool → List (List ℕ) → List (List (List Point)) → List (List ℕ) → Type 0
-WriteBody several words polygons rest =
-    ((words ≡ codes "EMPTY" ∷ rest) × (polygons ≡ []))
-    ⊎ ((inner : List (List ℕ)) × (words ≡ opening ∷ inner) × WriteListed several inner polygons rest)
+WriteBody true words polygons rest = EmptyOr WritePolygon words polygons rest
+WriteBody false words polygons rest = (rings : List (List Point)) × (polygons ≡ rings ∷ []) × WritePolygon words rings rest
 
 -- The words are a name and what belongs to it.
 abbrev pub WriteGeometry : List (List ℕ) → List (List (List Point)) → Type 0

@@ -260,7 +260,9 @@ fn explain_text(
     reading: Reading,
 ) -> Result<(), AllocError> {
     if line.starts_with(b"\xef\xbb\xbf") {
-        return text.push_str("the file begins with a byte order mark: save it without one");
+        return text.push_str(
+            "column 1: the file begins with a byte order mark: save it without one",
+        );
     }
     match fault {
         LineFault::Range => explain_range(text, line, reading.range),
@@ -286,12 +288,14 @@ fn explain_range(text: &mut String, line: &[u8], range: (i64, i64)) -> Result<()
         }
         at = end;
     }
+    tell_column(text, 0)?;
     text.push_str("a coordinate is out of range")
 }
 
 /// What is wrong with a line that has to be a letter and coordinates.
 fn explain_form(text: &mut String, line: &[u8]) -> Result<(), AllocError> {
     let mut at = 0;
+    let mut last = 0;
     let mut has_letter = false;
     let mut is_odd = false;
     while let Some((start, end)) = next_word(line, at, false) {
@@ -302,12 +306,14 @@ fn explain_form(text: &mut String, line: &[u8]) -> Result<(), AllocError> {
             }
             has_letter = true;
         } else if signed_number(word).is_none() {
-            return explain_number(text, start, word);
+            return explain_number(text, start, word, false);
         } else {
             is_odd = !is_odd;
         }
+        last = start;
         at = end;
     }
+    tell_column(text, last)?;
     text.push_str(if is_odd {
         "the last point has an x and no y"
     } else {
@@ -323,14 +329,19 @@ fn explain_letter(text: &mut String, start: usize, word: &[u8]) -> Result<(), Al
         b"shape" => " is a line of its own, of an output without format=wkt",
         b"rule" => " begins a line of an output by several rules: choose one alone",
         b"passes" | b"reach" => " begins a line of a report, which is no input",
-        b"POLYGON" | b"MULTIPOLYGON" => " is WKT: write `S` or `C` before it, and add format=wkt",
+        name if is_geometry_name(name) => " is WKT: write `S` or `C` before it, and add format=wkt",
         [b'S' | b'C', ..] => " has to be `S` or `C`, with a space behind it",
         _ => " has to be `S`, for the subject, or `C`, for the clip",
     })
 }
 
 /// What is wrong with a word in the place of a number.
-fn explain_number(text: &mut String, start: usize, word: &[u8]) -> Result<(), AllocError> {
+fn explain_number(
+    text: &mut String,
+    start: usize,
+    word: &[u8],
+    is_wkt: bool,
+) -> Result<(), AllocError> {
     tell(text, start, word)?;
     text.push_str(" is no whole number")?;
     text.push_str(if word.contains(&b',') {
@@ -339,13 +350,18 @@ fn explain_number(text: &mut String, start: usize, word: &[u8]) -> Result<(), Al
         ": it has a tab; put spaces between numbers"
     } else if word.contains(&b'.') {
         ": multiply all coordinates by a power of ten"
-    } else if word.starts_with(b"POLYGON") || word.starts_with(b"MULTIPOLYGON") {
+    } else if is_geometry_name(word) && !is_wkt {
         ": this is WKT; add format=wkt"
     } else if word.iter().all(|byte| byte.is_ascii_digit()) {
         " of at most ten digits"
     } else {
         ""
     })
+}
+
+/// Whether a word is `POLYGON` or `MULTIPOLYGON`, in any case.
+fn is_geometry_name(word: &[u8]) -> bool {
+    word.eq_ignore_ascii_case(b"POLYGON") || word.eq_ignore_ascii_case(b"MULTIPOLYGON")
 }
 
 /// What may come next in a line of WKT.
@@ -355,7 +371,7 @@ enum Next {
     Name,
     /// A `(`, or `EMPTY`.
     Opening,
-    /// A `(`, or the `x` of a point.
+    /// A `(`, the `x` of a point, or `EMPTY` in place of a polygon.
     Item,
     /// The `y` of a point.
     Second,
@@ -367,9 +383,10 @@ enum Next {
 /// What may come behind a word, if the word may come here.
 fn behind(next: Next, word: &[u8]) -> Option<Next> {
     match (next, word) {
-        (Next::Letter, b"S" | b"C") => Some(Next::Name),
-        (Next::Name, b"POLYGON" | b"MULTIPOLYGON") => Some(Next::Opening),
-        (Next::Opening, b"EMPTY") => Some(Next::Nothing),
+        (Next::Letter, b"S" | b"C" | b"s" | b"c") => Some(Next::Name),
+        (Next::Name, name) if is_geometry_name(name) => Some(Next::Opening),
+        (Next::Opening, name) if name.eq_ignore_ascii_case(b"EMPTY") => Some(Next::Nothing),
+        (Next::Item, name) if name.eq_ignore_ascii_case(b"EMPTY") => Some(Next::Mark),
         (Next::Opening | Next::Item, b"(") => Some(Next::Item),
         (Next::Item, _) => signed_number(word).map(|_| Next::Second),
         (Next::Second, _) => signed_number(word).map(|_| Next::Mark),
@@ -382,6 +399,7 @@ fn behind(next: Next, word: &[u8]) -> Option<Next> {
 /// What is wrong with a line of WKT.
 fn explain_wkt(text: &mut String, line: &[u8]) -> Result<(), AllocError> {
     let mut at = 0;
+    let mut depth = 0_usize;
     let mut next = Next::Letter;
     while let Some((start, end)) = next_word(line, at, true) {
         let word = &line[start..end];
@@ -389,14 +407,28 @@ fn explain_wkt(text: &mut String, line: &[u8]) -> Result<(), AllocError> {
             Some(then) => next = then,
             None => return explain_place(text, start, word, next),
         }
+        depth = depth_behind(depth, word);
+        if depth == 0 && next == Next::Mark {
+            next = Next::Nothing;
+        }
         at = end;
     }
+    tell_column(text, line.len())?;
     text.push_str(match next {
         Next::Mark | Next::Nothing => {
             "the parentheses do not fit: a POLYGON has two around points, a MULTIPOLYGON three"
         }
         _ => "it ends too early",
     })
+}
+
+/// How many parentheses are open behind a word.
+fn depth_behind(depth: usize, word: &[u8]) -> usize {
+    match word {
+        b"(" => depth.saturating_add(1),
+        b")" => depth.saturating_sub(1),
+        _ => depth,
+    }
 }
 
 /// What is wrong with a word of WKT where something else may come.
@@ -408,22 +440,36 @@ fn explain_place(
 ) -> Result<(), AllocError> {
     match next {
         Next::Letter => return explain_letter(text, start, word),
-        Next::Item | Next::Second => return explain_number(text, start, word),
+        Next::Item | Next::Second => return explain_number(text, start, word, true),
         _ => tell(text, start, word)?,
     }
     text.push_str(match next {
         Next::Name => " has to be POLYGON or MULTIPOLYGON",
+        Next::Opening if is_dimension(word) =>
+            " is for more than two coordinates, and these have two",
         Next::Opening => " has to be `(` or EMPTY",
         Next::Nothing => " is one word too many",
         _ => " has to be `,` or `)`",
     })
 }
 
+/// Whether a word is what WKT writes behind a name where points have more coordinates.
+fn is_dimension(word: &[u8]) -> bool {
+    word.eq_ignore_ascii_case(b"Z")
+        || word.eq_ignore_ascii_case(b"M")
+        || word.eq_ignore_ascii_case(b"ZM")
+}
+
 /// Writes the column of a word, from 1, and the word.
 fn tell(text: &mut String, start: usize, word: &[u8]) -> Result<(), AllocError> {
-    let column = start.saturating_add(1);
-    write!(text, "column {column}: ")?;
+    tell_column(text, start)?;
     show(text, word)
+}
+
+/// Writes the column of a byte, from 1.
+fn tell_column(text: &mut String, at: usize) -> Result<(), AllocError> {
+    let column = at.saturating_add(1);
+    write!(text, "column {column}: ")
 }
 
 /// Where the next word begins and ends. Each `(`, `)` and `,` is a word of its own, if marks are split off.

@@ -12,7 +12,7 @@ The input has a contour on each line:
   C X Y X Y ..     a contour of the clip
 Lines `contour X Y X Y ..` and `shape` of an output are input too, of the subject unless contours=clip is given.
 Coordinates are whole numbers, up to 1073741823 on either side of 0, with spaces between them. Outer contours run
-counterclockwise, and holes clockwise; with fill=evenodd the direction does not count.
+counterclockwise, and holes clockwise; with fill=evenodd a direction changes no more than rounding does.
 
 Under format=wkt each line is S or C and a geometry, whose rings run in any direction:
   S POLYGON ((0 0, 4 0, 4 4, 0 4, 0 0))

@@ -10,7 +10,7 @@ ghost use Rattle.overlay_contours.specs.ShapesOf.{shapes_of};
 ghost use Rattle.overlay_text.specs.Text.{words_of, words_of_line};
 ghost use Rattle.overlay_text.specs.Runs.{IfStopped};
 ghost use Rattle.polygons.specs.ContourText.{GivenContour, are_in_range, Keeps};
-ghost use Rattle.polygons.specs.Wkt.{opening, closing, comma, spaced_byte, WriteItems, WritePoint, WriteRing, WritePolygon, geometry_name, WriteListed, WriteBody, WriteGeometry, WritePolygonsOf, runs_wrong, turned, polygon_contours, contour_of_shape, are_polygons_in_range, AsksForPolygons, AreFaultyPolygons, KeepsPolygons, NamesFirstFaultyPolygons};
+ghost use Rattle.polygons.specs.Wkt.{opening, closing, comma, spaced_byte, WriteItems, WritePoint, WriteRing, WritePolygon, EmptyOr, geometry_name, WriteBody, WriteGeometry, WritePolygonsOf, runs_wrong, turned, polygon_contours, contour_of_shape, are_polygons_in_range, AsksForPolygons, AreFaultyPolygons, KeepsPolygons, NamesFirstFaultyPolygons};
 
 use crate::contour_lines::{ShapeContour, add_contour, contour_points};
 use overlay_base::segm::shape_type::ShapeType;
@@ -63,7 +63,7 @@ fn add_line<I: OverlayInt>(
     add_polygons(alloc, overlay, number, shape_type, polygons.as_slice())
 }
 
-/// Puts the text of a line in place of what the list had, with spaces around each `(`, `)` and `,`.
+/// Puts the text of a line in place of what the list had, in capitals, with spaces around each `(`, `)` and `,`.
 fn put_spaces(line: &[u8], spaced: &mut Vec<u8>) -> Result<(), AllocError>
     ensures { OnOk result (spaced.new.items ≡ flat_map spaced_byte line.now) }
 {
@@ -74,7 +74,7 @@ fn put_spaces(line: &[u8], spaced: &mut Vec<u8>) -> Result<(), AllocError>
     Ok(())
 }
 
-/// Appends a byte, between spaces where it is `(`, `)` or `,`.
+/// Appends a byte, a letter as a capital, and between spaces where it is `(`, `)` or `,`.
 #[tactic(auto, unfolding(crate::specs::Wkt::spaced_byte))]
 fn put_spaced(byte: u8, spaced: &mut Vec<u8>) -> Result<(), AllocError>
     ensures { OnOk result (spaced.new.items ≡ spaced.old.items ++ spaced_byte byte) }
@@ -84,7 +84,7 @@ fn put_spaced(byte: u8, spaced: &mut Vec<u8>) -> Result<(), AllocError>
         spaced.push(byte)?;
         spaced.push(b' ')?;
     } else {
-        spaced.push(byte)?;
+        spaced.push(byte.to_ascii_uppercase())?;
     }
     Ok(())
 }
@@ -139,33 +139,60 @@ fn read_body(
         × ((polygons : List (List (List Point))) (rest : List (List ℕ))
         → ¬ (WriteBody several (words_of words.old.rest.now) polygons rest)))) }
 {
+    if several {
+        return read_several(alloc, number, words);
+    }
+    let mut polygons = Vec::new(alloc);
+    polygons.push(read_polygon(alloc, number, words)?)?;
+    Ok(polygons)
+}
+
+/// The polygons that the words write, between parentheses, or none for `EMPTY`.
+fn read_several(alloc: Global, number: usize, words: &mut Words<'_>) -> Result<Vec<Vec<Ring>>, Stop>
+    ensures items { IfOk result (λ items. EmptyOr WritePolygon (words_of words.old.rest.now)
+        (shapes_of (λ z. z) items.items) (words_of words.new.rest.now)) }
+    ensures stop { IfErr result (λ stop. (stop ≡ Stop.Refused Memory) ⊎ ((stop ≡ Stop.Line number LineFault.Form)
+        × ((items : List (List (List Point))) (rest : List (List ℕ))
+        → ¬ (EmptyOr WritePolygon (words_of words.old.rest.now) items rest)))) }
+{
     let fault = LineFault::Form;
     if pass_mark(words).ok_or(Stop::Line { number, fault })? {
-        read_listed(alloc, number, several, words)
+        read_polygons(alloc, number, words)
     } else {
         Ok(Vec::new(alloc))
     }
 }
 
-/// The polygons that the words write behind the first `(`.
-fn read_listed(
-    alloc: Global,
-    number: usize,
-    several: bool,
-    words: &mut Words<'_>,
-) -> Result<Vec<Vec<Ring>>, Stop>
-    ensures polygons { IfOk result (λ polygons. WriteListed several (words_of words.old.rest.now)
-        (shapes_of (λ z. z) polygons.items) (words_of words.new.rest.now)) }
+/// The rings of the polygon that the words write, between parentheses, or none for `EMPTY`.
+fn read_polygon(alloc: Global, number: usize, words: &mut Words<'_>) -> Result<Vec<Ring>, Stop>
+    ensures items { IfOk result (λ items. WritePolygon (words_of words.old.rest.now)
+        (contours_of (λ z. z) items.items) (words_of words.new.rest.now)) }
     ensures stop { IfErr result (λ stop. (stop ≡ Stop.Refused Memory) ⊎ ((stop ≡ Stop.Line number LineFault.Form)
-        × ((polygons : List (List (List Point))) (rest : List (List ℕ))
-        → ¬ (WriteListed several (words_of words.old.rest.now) polygons rest)))) }
+        × ((items : List (List Point)) (rest : List (List ℕ))
+        → ¬ (WritePolygon (words_of words.old.rest.now) items rest)))) }
 {
-    if several {
-        return read_polygons(alloc, number, words);
+    let fault = LineFault::Form;
+    if pass_mark(words).ok_or(Stop::Line { number, fault })? {
+        read_rings(alloc, number, words)
+    } else {
+        Ok(Vec::new(alloc))
     }
-    let mut polygons = Vec::new(alloc);
-    polygons.push(read_rings(alloc, number, words)?)?;
-    Ok(polygons)
+}
+
+/// The points of the ring that the words write, between parentheses, or none for `EMPTY`.
+fn read_ring(alloc: Global, number: usize, words: &mut Words<'_>) -> Result<Ring, Stop>
+    ensures items { IfOk result (λ items. WriteRing (words_of words.old.rest.now)
+        (points_of (λ z. z) items.items) (words_of words.new.rest.now)) }
+    ensures stop { IfErr result (λ stop. (stop ≡ Stop.Refused Memory) ⊎ ((stop ≡ Stop.Line number LineFault.Form)
+        × ((items : List Point) (rest : List (List ℕ))
+        → ¬ (WriteRing (words_of words.old.rest.now) items rest)))) }
+{
+    let fault = LineFault::Form;
+    if pass_mark(words).ok_or(Stop::Line { number, fault })? {
+        read_points(alloc, number, words)
+    } else {
+        Ok(Vec::new(alloc))
+    }
 }
 
 /// Passes over a name, and returns whether it is that of several polygons.
@@ -222,8 +249,7 @@ fn read_polygons(
     let fault = LineFault::Form;
     let mut polygons = Vec::new(alloc);
     loop {
-        pass_opening(words).ok_or(Stop::Line { number, fault })?;
-        polygons.push(read_rings(alloc, number, words)?)?;
+        polygons.push(read_polygon(alloc, number, words)?)?;
         if is_end(words).ok_or(Stop::Line { number, fault })? {
             return Ok(polygons);
         }
@@ -241,8 +267,7 @@ fn read_rings(alloc: Global, number: usize, words: &mut Words<'_>) -> Result<Vec
     let fault = LineFault::Form;
     let mut rings = Vec::new(alloc);
     loop {
-        pass_opening(words).ok_or(Stop::Line { number, fault })?;
-        rings.push(read_points(alloc, number, words)?)?;
+        rings.push(read_ring(alloc, number, words)?)?;
         if is_end(words).ok_or(Stop::Line { number, fault })? {
             return Ok(rings);
         }
@@ -278,18 +303,6 @@ fn read_point(words: &mut Words<'_>) -> Option<IntPoint<i64>>
         x: signed_number(words.next()?)?,
         y: signed_number(words.next()?)?,
     })
-}
-
-/// Passes over a `(`.
-fn pass_opening(words: &mut Words<'_>) -> Option<()>
-    ensures { MatchOption result
-        ((rest : List (List ℕ)) → words_of words.old.rest.now ≢ opening ∷ rest)
-        (λ _. words_of words.old.rest.now ≡ opening ∷ words_of words.new.rest.now) }
-{
-    match words.next()? {
-        b"(" => Some(()),
-        _ => None,
-    }
 }
 
 /// Whether a list ends here, with a `)`, or goes on, with a comma.

@@ -31,6 +31,7 @@ returns-in_ok-keep_lists-clause-kept g c =
           subst (λ ls. AreClosedWalks ls (map (λ w. w.items) c.in_ok-found.found.items)) holds'.same_links c.in_ok-found.ensures.walks,
           same_laid _ _ _ _ (ap (λ vs. map (λ w. w.items) vs) c.deref.ensures.value) c.in_ok-keep_lists.ensures.lengths c.in_ok-keep_lists.ensures.indexes,
         );
+        no_walks = λ is. absurd (both_ways c.if-walks.self is c.if-self.true);
       };
     }
 
@@ -51,5 +52,10 @@ returns-else-self-clause-kept g c =
       kept_walks = record {
         has_walks = elim c.if-walks.branch [ then-walks w ↦ rw w.if-walks.true (w.self-is ∙ w.has_even_nodes-self.ensures) | else-walks w ↦ rw w.if-walks.false (w.self-is ∙ w.if-walks.false) ];
         walks = λ is. absurd (both_ways c.if-walks.self c.if-self.false is);
+        no_walks = λ is. record {
+          has_walks = is;
+          lengths = c.drop_walks.ensures.lengths;
+          links = c.drop_walks.ensures.links;
+        };
       };
     }

@@ -1,5 +1,5 @@
 use Rattle.std.proofs.Common.{◌∙◌, ap, sym, refl, inr, map}
-use Rattle.std.proofs.lemmas.Bool.{false≢true}
+use Rattle.std.proofs.lemmas.Bool.{both_ways}
 use Rattle.overlay_base.specs.EdgeData.{without_data}
 use Rattle.overlay_base.specs.Rules.{holds}
 use Rattle.overlay_base.specs.SegmentOf.{segments_of, data_segments_of}
@@ -63,8 +63,13 @@ returns-clause-kept g c =
         nodes = same_laid _ _ _ _ (ap (λ ns. map indexes_of ns) c.nodes.ensures ∙ holds'.same_nodes) c.in_ok-keep_nodes.ensures.degrees c.in_ok-keep_nodes.ensures.indexes;
       };
       kept_walks = record {
-        has_walks = refl;
-        walks = λ is. absurd (false≢true is);
+        has_walks = c.drop_walks.ensures.has_walks;
+        walks = λ is. absurd (both_ways _ c.drop_walks.ensures.has_walks is);
+        no_walks = λ is. record {
+          has_walks = is;
+          lengths = c.drop_walks.ensures.lengths;
+          links = c.drop_walks.ensures.links;
+        };
       };
     }
 
