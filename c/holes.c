@@ -1,12 +1,12 @@
 /* A square without another one, in shapes: its boundary and its hole. Then calls with wrong arguments, each of which is refused. */
-#include "overlay_core.h"
+#include "fadrinzo.h"
 
 #include <assert.h>
 #include <stdio.h>
 
-static void print_shapes(const overlay_core *overlay)
+static void print_shapes(const fadrinzo *overlay)
 {
-    overlay_core_result result = overlay_core_get(overlay);
+    fadrinzo_result result = fadrinzo_get(overlay);
     for (size_t shape = 0; shape < result.shapes; shape++) {
         puts("shape");
         for (size_t contour = result.shape_starts[shape]; contour < result.shape_starts[shape + 1]; contour++) {
@@ -21,58 +21,58 @@ static void print_shapes(const overlay_core *overlay)
 int main(void)
 {
     const int32_t outer[] = {0, 0, 8, 0, 8, 8, 0, 8}, inner[] = {2, 2, 6, 2, 6, 6, 2, 6}, far[] = {0, 0, 1, 0, 0, INT32_MAX};
-    assert(overlay_core_version() == OVERLAY_CORE_VERSION);
-    overlay_core *overlay = overlay_core_new();
+    assert(fadrinzo_version() == FADRINZO_VERSION);
+    fadrinzo *overlay = fadrinzo_new();
     assert(overlay);
-    assert(overlay_core_add_contour(overlay, OVERLAY_CORE_SUBJECT, outer, 4) == OVERLAY_CORE_OK);
-    assert(overlay_core_add_contour(overlay, OVERLAY_CORE_CLIP, inner, 4) == OVERLAY_CORE_OK);
-    overlay_core_status status = overlay_core_overlay_shapes(overlay, OVERLAY_CORE_RULE_DIFFERENCE, OVERLAY_CORE_FILL_NON_ZERO);
-    if (status != OVERLAY_CORE_OK) {
-        puts(overlay_core_text(status));
+    assert(fadrinzo_add_contour(overlay, FADRINZO_SUBJECT, outer, 4) == FADRINZO_OK);
+    assert(fadrinzo_add_contour(overlay, FADRINZO_CLIP, inner, 4) == FADRINZO_OK);
+    fadrinzo_status status = fadrinzo_overlay_shapes(overlay, FADRINZO_RULE_DIFFERENCE, FADRINZO_FILL_NON_ZERO);
+    if (status != FADRINZO_OK) {
+        puts(fadrinzo_text(status));
         return 1;
     }
     print_shapes(overlay);
 
-    assert(overlay_core_add_contour(overlay, OVERLAY_CORE_CLIP, far, 3) == OVERLAY_CORE_POINT_OUT_OF_RANGE);
-    assert(overlay_core_add_contour(overlay, 9, inner, 4) == OVERLAY_CORE_BAD_ARGUMENT);
-    assert(overlay_core_add_contour(overlay, OVERLAY_CORE_CLIP, NULL, 4) == OVERLAY_CORE_BAD_ARGUMENT);
-    assert(overlay_core_add_contour(overlay, OVERLAY_CORE_CLIP, NULL, 0) == OVERLAY_CORE_OK);
-    assert(overlay_core_overlay(overlay, 99, OVERLAY_CORE_FILL_NON_ZERO) == OVERLAY_CORE_BAD_ARGUMENT);
-    assert(overlay_core_overlay(overlay, OVERLAY_CORE_RULE_UNION, 66) == OVERLAY_CORE_BAD_ARGUMENT);
-    assert(overlay_core_overlay(NULL, OVERLAY_CORE_RULE_UNION, 0) == OVERLAY_CORE_BAD_ARGUMENT);
-    assert(overlay_core_get(NULL).contours == 0);
-    assert(overlay_core_overlay(overlay, OVERLAY_CORE_RULE_TABLE + 8, OVERLAY_CORE_FILL_NON_ZERO) == OVERLAY_CORE_OK);
-    assert(overlay_core_get(overlay).contours == 1 && overlay_core_get(overlay).shapes == 0);
+    assert(fadrinzo_add_contour(overlay, FADRINZO_CLIP, far, 3) == FADRINZO_POINT_OUT_OF_RANGE);
+    assert(fadrinzo_add_contour(overlay, 9, inner, 4) == FADRINZO_BAD_ARGUMENT);
+    assert(fadrinzo_add_contour(overlay, FADRINZO_CLIP, NULL, 4) == FADRINZO_BAD_ARGUMENT);
+    assert(fadrinzo_add_contour(overlay, FADRINZO_CLIP, NULL, 0) == FADRINZO_OK);
+    assert(fadrinzo_overlay(overlay, 99, FADRINZO_FILL_NON_ZERO) == FADRINZO_BAD_ARGUMENT);
+    assert(fadrinzo_overlay(overlay, FADRINZO_RULE_UNION, 66) == FADRINZO_BAD_ARGUMENT);
+    assert(fadrinzo_overlay(NULL, FADRINZO_RULE_UNION, 0) == FADRINZO_BAD_ARGUMENT);
+    assert(fadrinzo_get(NULL).contours == 0);
+    assert(fadrinzo_overlay(overlay, FADRINZO_RULE_TABLE + 8, FADRINZO_FILL_NON_ZERO) == FADRINZO_OK);
+    assert(fadrinzo_get(overlay).contours == 1 && fadrinzo_get(overlay).shapes == 0);
 
-    const int rules[] = {OVERLAY_CORE_RULE_UNION, OVERLAY_CORE_RULE_INTERSECT, OVERLAY_CORE_RULE_DIFFERENCE}, wrong[] = {99};
-    assert(overlay_core_overlay_by_rules(overlay, wrong, 1, OVERLAY_CORE_FILL_NON_ZERO) == OVERLAY_CORE_BAD_ARGUMENT);
-    assert(overlay_core_overlay_by_rules(overlay, NULL, 1, OVERLAY_CORE_FILL_NON_ZERO) == OVERLAY_CORE_BAD_ARGUMENT);
-    assert(overlay_core_overlay_by_rules(overlay, rules, 3, OVERLAY_CORE_FILL_NON_ZERO) == OVERLAY_CORE_OK);
-    assert(overlay_core_get(overlay).shapes == 3 && overlay_core_get(overlay).contours == 4);
-    assert(overlay_core_locate(overlay, OVERLAY_CORE_SUBJECT, OVERLAY_CORE_FILL_NON_ZERO, 1, 8) == OVERLAY_CORE_ON_BOUNDARY);
-    assert(overlay_core_locate(overlay, OVERLAY_CORE_SUBJECT, OVERLAY_CORE_FILL_NON_ZERO, 1, 4) == OVERLAY_CORE_INSIDE);
-    assert(overlay_core_locate(overlay, OVERLAY_CORE_CLIP, OVERLAY_CORE_FILL_NON_ZERO, 1, 4) == OVERLAY_CORE_OUTSIDE);
-    assert(overlay_core_locate(overlay, OVERLAY_CORE_CLIP, OVERLAY_CORE_FILL_NON_ZERO, INT32_MAX, 4) == OVERLAY_CORE_OUTSIDE);
-    assert(overlay_core_locate(NULL, OVERLAY_CORE_CLIP, OVERLAY_CORE_FILL_NON_ZERO, 1, 4) == OVERLAY_CORE_LOCATION_BAD_ARGUMENT);
+    const int rules[] = {FADRINZO_RULE_UNION, FADRINZO_RULE_INTERSECT, FADRINZO_RULE_DIFFERENCE}, wrong[] = {99};
+    assert(fadrinzo_overlay_by_rules(overlay, wrong, 1, FADRINZO_FILL_NON_ZERO) == FADRINZO_BAD_ARGUMENT);
+    assert(fadrinzo_overlay_by_rules(overlay, NULL, 1, FADRINZO_FILL_NON_ZERO) == FADRINZO_BAD_ARGUMENT);
+    assert(fadrinzo_overlay_by_rules(overlay, rules, 3, FADRINZO_FILL_NON_ZERO) == FADRINZO_OK);
+    assert(fadrinzo_get(overlay).shapes == 3 && fadrinzo_get(overlay).contours == 4);
+    assert(fadrinzo_locate(overlay, FADRINZO_SUBJECT, FADRINZO_FILL_NON_ZERO, 1, 8) == FADRINZO_ON_BOUNDARY);
+    assert(fadrinzo_locate(overlay, FADRINZO_SUBJECT, FADRINZO_FILL_NON_ZERO, 1, 4) == FADRINZO_INSIDE);
+    assert(fadrinzo_locate(overlay, FADRINZO_CLIP, FADRINZO_FILL_NON_ZERO, 1, 4) == FADRINZO_OUTSIDE);
+    assert(fadrinzo_locate(overlay, FADRINZO_CLIP, FADRINZO_FILL_NON_ZERO, INT32_MAX, 4) == FADRINZO_OUTSIDE);
+    assert(fadrinzo_locate(NULL, FADRINZO_CLIP, FADRINZO_FILL_NON_ZERO, 1, 4) == FADRINZO_LOCATION_BAD_ARGUMENT);
     /* two squares that share a side, split once for two overlays; without the two points at which the boundary goes straight on */
     const int32_t beside[] = {8, 0, 16, 0, 16, 8, 8, 8};
-    assert(overlay_core_clear(overlay) == OVERLAY_CORE_OK && overlay_core_get(overlay).points == 0);
-    assert(overlay_core_add_contour(overlay, OVERLAY_CORE_SUBJECT, outer, 4) == OVERLAY_CORE_OK);
-    assert(overlay_core_add_contour(overlay, OVERLAY_CORE_CLIP, beside, 4) == OVERLAY_CORE_OK);
-    assert(overlay_core_arrange(overlay, 66) == OVERLAY_CORE_BAD_ARGUMENT);
-    assert(overlay_core_arrange(NULL, OVERLAY_CORE_FILL_NON_ZERO) == OVERLAY_CORE_BAD_ARGUMENT);
-    assert(overlay_core_arrange(overlay, OVERLAY_CORE_FILL_NON_ZERO) == OVERLAY_CORE_OK);
-    assert(overlay_core_arranged(overlay, 99, 0) == OVERLAY_CORE_BAD_ARGUMENT);
-    assert(overlay_core_arranged(overlay, OVERLAY_CORE_RULE_UNION, 0) == OVERLAY_CORE_OK);
-    assert(overlay_core_get(overlay).contours == 1 && overlay_core_get(overlay).points == 6);
-    assert(overlay_core_arranged_shapes(overlay, OVERLAY_CORE_RULE_UNION, 1) == OVERLAY_CORE_OK);
-    assert(overlay_core_get(overlay).shapes == 1 && overlay_core_get(overlay).points == 4 && overlay_core_get(overlay).reach == 1);
-    assert(overlay_core_arranged(overlay, OVERLAY_CORE_RULE_INTERSECT, 0) == OVERLAY_CORE_OK);
-    assert(overlay_core_get(overlay).contours == 0);
-    overlay_core *other = overlay_core_new();
-    assert(other && overlay_core_arranged(other, OVERLAY_CORE_RULE_UNION, 0) == OVERLAY_CORE_BAD_ARGUMENT);
-    overlay_core_free(other);
-    overlay_core_free(overlay);
-    overlay_core_free(NULL);
+    assert(fadrinzo_clear(overlay) == FADRINZO_OK && fadrinzo_get(overlay).points == 0);
+    assert(fadrinzo_add_contour(overlay, FADRINZO_SUBJECT, outer, 4) == FADRINZO_OK);
+    assert(fadrinzo_add_contour(overlay, FADRINZO_CLIP, beside, 4) == FADRINZO_OK);
+    assert(fadrinzo_arrange(overlay, 66) == FADRINZO_BAD_ARGUMENT);
+    assert(fadrinzo_arrange(NULL, FADRINZO_FILL_NON_ZERO) == FADRINZO_BAD_ARGUMENT);
+    assert(fadrinzo_arrange(overlay, FADRINZO_FILL_NON_ZERO) == FADRINZO_OK);
+    assert(fadrinzo_arranged(overlay, 99, 0) == FADRINZO_BAD_ARGUMENT);
+    assert(fadrinzo_arranged(overlay, FADRINZO_RULE_UNION, 0) == FADRINZO_OK);
+    assert(fadrinzo_get(overlay).contours == 1 && fadrinzo_get(overlay).points == 6);
+    assert(fadrinzo_arranged_shapes(overlay, FADRINZO_RULE_UNION, 1) == FADRINZO_OK);
+    assert(fadrinzo_get(overlay).shapes == 1 && fadrinzo_get(overlay).points == 4 && fadrinzo_get(overlay).reach == 0);
+    assert(fadrinzo_arranged(overlay, FADRINZO_RULE_INTERSECT, 0) == FADRINZO_OK);
+    assert(fadrinzo_get(overlay).contours == 0);
+    fadrinzo *other = fadrinzo_new();
+    assert(other && fadrinzo_arranged(other, FADRINZO_RULE_UNION, 0) == FADRINZO_BAD_ARGUMENT);
+    fadrinzo_free(other);
+    fadrinzo_free(overlay);
+    fadrinzo_free(NULL);
     return 0;
 }

@@ -4,8 +4,8 @@ import math
 import threading
 import unittest
 
-import overlay_core
-from overlay_core import overlay
+import fadrinzo
+from fadrinzo import overlay
 
 
 def square(low, high):
@@ -29,39 +29,39 @@ class Overlays(unittest.TestCase):
     def test_areas_add_up(self):
         subject, clip = [[(0, 0), (1000, 10), (900, 800)]], [[(100, -50), (700, 300), (200, 900)]]
         area = {rule: sum(doubled_area(it) for shape in overlay(subject, clip, rule) for it in [shape[0], *shape[1]])
-                for rule in overlay_core.RULES}
+                for rule in fadrinzo.RULES}
         self.assertEqual(area["union"] + area["intersect"], area["subject"] + area["clip"])
         self.assertEqual(area["xor"], area["union"] - area["intersect"])
 
     def test_several_rules(self):
         subject, clip = [square(0, 9), square(20, 22)], [square(3, 6), square(8, 12)]
-        found = overlay_core.overlay_by_rules(subject, clip, overlay_core.RULES, fill="evenodd")
-        for rule, contours in zip(overlay_core.RULES, found):
+        found = fadrinzo.overlay_by_rules(subject, clip, fadrinzo.RULES, fill="evenodd")
+        for rule, contours in zip(fadrinzo.RULES, found):
             alone = sum(doubled_area(it) for shape in overlay(subject, clip, rule, fill="evenodd") for it in [shape[0], *shape[1]])
             self.assertEqual(sum(map(doubled_area, contours)), alone)
-        self.assertEqual(overlay_core.overlay_by_rules(subject, clip, []), [])
+        self.assertEqual(fadrinzo.overlay_by_rules(subject, clip, []), [])
 
     def test_arrangement(self):
         subject, clip = [square(0, 9), square(20, 22)], [square(3, 6), square(8, 12)]
-        arrangement = overlay_core.Arrangement(subject, clip, fill="evenodd")
-        for rule in overlay_core.RULES:
+        arrangement = fadrinzo.Arrangement(subject, clip, fill="evenodd")
+        for rule in fadrinzo.RULES:
             self.assertEqual(arrangement.overlay(rule), overlay(subject, clip, rule, fill="evenodd"))
-            self.assertEqual([arrangement.contours(rule)], overlay_core.overlay_by_rules(subject, clip, [rule], fill="evenodd"))
+            self.assertEqual([arrangement.contours(rule)], fadrinzo.overlay_by_rules(subject, clip, [rule], fill="evenodd"))
         with self.assertRaises(ValueError):
             arrangement.overlay("onion")
 
     def test_without_collinear(self):
         beside = [(x + 8, y) for x, y in square(0, 8)]
-        terraced = overlay_core.Arrangement([square(0, 8)], [beside], scale=2)
+        terraced = fadrinzo.Arrangement([square(0, 8)], [beside], scale=2)
         (boundary, _), = terraced.overlay("union", collinear=False)
         self.assertEqual(sorted(boundary), [(0, 0), (0, 8), (16, 0), (16, 8)])
         self.assertEqual(len(terraced.contours("union")[0]), 6)
 
     def test_where_a_point_lies(self):
         ring = [square(0, 8), square(2, 6)[::-1]]
-        found = [overlay_core.locate(ring, (x, 4)) for x in range(-1, 5)]
+        found = [fadrinzo.locate(ring, (x, 4)) for x in range(-1, 5)]
         self.assertEqual(found, ["outside", "boundary", "inside", "boundary", "outside", "outside"])
-        self.assertEqual(overlay_core.locate([square(0, 1)], (0.25, 0.5), scale=100), "inside")
+        self.assertEqual(fadrinzo.locate([square(0, 1)], (0.25, 0.5), scale=100), "inside")
 
     def test_floats(self):
         (boundary, holes), = overlay([[(0.0, 0.0), (0.5, 0.0), (0.5, 0.25)]], [], "subject", scale=1000)
@@ -73,7 +73,7 @@ class Overlays(unittest.TestCase):
         self.assertEqual(overlay([[]], [square(0, 1)], "intersect"), [])
 
     def test_example(self):
-        failed, tried = doctest.testmod(overlay_core)
+        failed, tried = doctest.testmod(fadrinzo)
         self.assertEqual((failed, tried > 0), (0, True))
 
 

@@ -6,9 +6,10 @@ import subprocess
 import sys
 import tempfile
 import unittest
+import warnings
 
-from overlay_core import wkt
-from overlay_core.wkt import WktError, overlay_wkt, polygons_of
+from fadrinzo import wkt
+from fadrinzo.wkt import WktError, overlay_wkt, polygons_of
 
 HERE = pathlib.Path(__file__).resolve()
 TOWN = HERE.parents[2] / "rust/examples/footprints"
@@ -23,7 +24,7 @@ def area_of(text):
 def run(*words, given=""):
     """Runs the command line."""
     environment = {**os.environ, "PYTHONPATH": str(HERE.parents[1])}
-    return subprocess.run([sys.executable, "-B", "-m", "overlay_core", *words], input=given, capture_output=True, text=True, env=environment, check=False)
+    return subprocess.run([sys.executable, "-B", "-m", "fadrinzo", *words], input=given, capture_output=True, text=True, env=environment, check=False)
 
 
 class Overlays(unittest.TestCase):
@@ -68,6 +69,60 @@ class Faults(unittest.TestCase):
         self.fails("POLYGON ((0 0, 1 0 1 1))", "column 20: '1' is where `,` or `)` has to be")
         self.fails("POLYGON ((0 0, 1 0, 1 1)", "line 2: it ends where `,` or `)` has to be")
         self.fails("POLYGON ((0 0, 1 0, 1 1)) POLYGON", "column 27: 'POLYGON' is where the end has to be")
+        self.fails("POLYGON ((0 0, 1 0, 1 1)) x", "column 27: 'x' is where the end has to be")
+        self.fails("MULTIPOLYGON (((0 0, 1 0, 1 1)), EMPT)", "column 34: 'EMPT' is where `(` has to be")
+        self.fails("POLYGON (EMPTY)", "column 10: 'EMPTY' is where `(` has to be")
+
+    def test_digits_are_those_of_ascii(self):
+        for word in ("1_0", "\u0661", "\uff11", "0x1", "1e", "1.", ".", "+", "--1", "1e5.0", "1\u00b2"):
+            if word == "1.":
+                self.assertEqual(polygons_of([f"POLYGON (({word} 0))"]), polygons_of(["POLYGON ((1 0))"]))
+            else:
+                self.fails(f"POLYGON (({word} 0, 1 1))", f"line 2, column 11: {word!r} is where a number has to be")
+
+    def test_powers_of_ten(self):
+        for word in ("1e99999", "-1e999999", "1e999999999", "1e-99999", "1e99999999999999999999", "1e331", "1e-331"):
+            with self.assertRaises(WktError) as caught:
+                overlay_wkt([f"POLYGON ((0 0, {word} 0, 1 1, 0 0))"], [], "union")
+            self.assertIn(f"line 1, column 16: {word.upper()!r} is not between".upper(), str(caught.exception).upper())
+        text = overlay_wkt(["POLYGON ((0 0, 1e300 0, 1e300 1e300, 0 0e999999))"], [], "union")
+        self.assertIn("1" + "0" * 300, text)
+
+    def test_more_coordinates(self):
+        for line in ("POLYGON Z ((0 0 0))", "MULTIPOLYGON ZM (((0 0 0 0)))", "polygon m ((0 0 0))", "POLYGON Z EMPTY", "POLYGONZ ((0 0 0))", "MultiPolygonM EMPTY"):
+            self.fails(line, "says that points have more than two coordinates: only x and y are read")
+        self.fails("POLYGON ((0 0 0, 1 1 0))", "column 15: '0' is where `,` or `)` has to be")
+
+
+class Forms(unittest.TestCase):
+    def test_keywords_in_any_case(self):
+        for line in ("polygon ((0 0, 4 0, 4 4, 0 4, 0 0))", "MultiPolygon (((0 0, 4 0, 4 4, 0 4, 0 0)), empty)", "MULTIPOLYGON (EMPTY, ((0 0, 4 0, 4 4, 0 4)), Empty)"):
+            self.assertEqual(overlay_wkt([line], [], "union"), "MULTIPOLYGON (((0 4, 0 0, 4 0, 4 4, 0 4)))")
+        for line in ("polygon empty", "Multipolygon Empty", "MULTIPOLYGON (EMPTY)", "MULTIPOLYGON (EMPTY, empty)"):
+            self.assertEqual(polygons_of([line]), [])
+
+    def test_unclosed_and_short_rings(self):
+        closed = overlay_wkt(["POLYGON ((0 0, 6 0, 6 6, 0 6, 0 0), (1 1, 2 1, 2 2, 1 1))"], [], "union")
+        self.assertEqual(overlay_wkt(["POLYGON ((0 0, 6 0, 6 6, 0 6), (1 1, 2 1, 2 2))"], [], "union"), closed)
+        for ring in ("1 1", "1 1, 1 1", "0 0, 6 0", "0 0, 6 0, 0 0"):
+            self.assertEqual(overlay_wkt([f"POLYGON (({ring}))"], [], "union"), "MULTIPOLYGON EMPTY")
+            self.assertEqual(overlay_wkt(["POLYGON ((0 0, 6 0, 6 6, 0 6), (1 1, 2 1, 2 2))", f"POLYGON (({ring}))"], [], "union").count("("), 4)
+
+    def test_small_figures_stay(self):
+        for line in ("POLYGON ((1e-10 0, 2e-10 0, 2e-10 1e-10, 1e-10 0))", "POLYGON ((0.25 0.25, 0.2500000001 0.25, 0.25 0.2500000001, 0.25 0.25))",
+                     "POLYGON ((1e-300 0, 2e-300 0, 2e-300 1e-300, 1e-300 0))", "POLYGON ((7e20 0, 7e20 1, 700000000000000000001 0, 7e20 0))"):
+            with warnings.catch_warnings():
+                warnings.simplefilter("error")
+                (polygon,) = polygons_of([overlay_wkt([line], [], "union")])
+            self.assertEqual({*polygon[0]}, {*polygons_of([line])[0][0]})
+
+    def test_figures_that_vanish_are_named(self):
+        far = "POLYGON ((0 0, 1e300 0, 0 1e300, 0 0))"
+        with self.assertWarnsRegex(wkt.WktWarning, r"the polygon at 5 5 vanishes: .* a unit is 1e\+?2[0-9]+"):
+            overlay_wkt([far, "POLYGON ((5 5, 6 5, 6 6, 5 5))"], [], "union")
+        done = run("union", "-", given=f"{far}\nPOLYGON ((5 5, 6 5, 6 6, 5 5))\n")
+        self.assertEqual(done.returncode, 0)
+        self.assertIn("the polygon at 5 5 vanishes", done.stderr)
 
 
 class CommandLine(unittest.TestCase):

@@ -1,6 +1,6 @@
 //! Contours of floating coordinates in meters: two plots of land that share a strip.
 
-use i_overlay_core::{area_of_shape, FillRule, FloatError, FloatOverlay, OverlayRule};
+use fadrinzo::{area_of_shape, FillRule, FloatError, FloatOverlay, OverlayRule};
 
 fn main() -> Result<(), FloatError> {
     let plot =

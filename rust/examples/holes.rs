@@ -1,6 +1,6 @@
 //! Polygons with holes in, shapes with holes out. Rings may run either way, and may end with the point where they begin.
 
-use i_overlay_core::{doubled_area_of_shape, Error, FillRule, IntContour, IntPoint, Overlay, OverlayRule, ShapeType};
+use fadrinzo::{doubled_area_of_shape, Error, FillRule, IntContour, IntPoint, Overlay, OverlayRule, ShapeType};
 
 fn main() -> Result<(), Error> {
     let mut overlay = Overlay::new()?;

@@ -5,54 +5,60 @@
 //! Prints the least wall times in milliseconds: `split_ms=` of `split`, and `all_ms=` of `build_all`, which splits, builds the
 //! graph of all segments, and copies its nodes out.
 
-use i_overlay_core::{FillRule, IntPoint, Overlay, Segment, ShapeType, Solver};
-use std::io::Read;
+mod given;
+
+use fadrinzo::{FillRule, IntPoint, Overlay, Segment, ShapeType, Solver};
+use given::{collect, Stop};
+use std::io::{Read, Write};
 use std::time::Instant;
 
-fn main() {
-    let words: Vec<String> = std::env::args().skip(1).collect();
-    let solver = match words.first().map_or("auto", String::as_str) {
-        "list" => Solver::LIST,
-        "tree" => Solver::TREE,
-        "frag" => Solver::FRAG,
+fn main() -> Result<(), Stop> {
+    let mut out = std::io::stdout().lock();
+    let mut words = std::env::args().skip(1);
+    let solver = match words.next().as_deref() {
+        Some("list") => Solver::LIST,
+        Some("tree") => Solver::TREE,
+        Some("frag") => Solver::FRAG,
         _ => Solver::AUTO,
     };
-    let runs = words.get(1).map_or(9, |number| number.parse().expect("a number of runs"));
-    let segments = read();
+    let runs = words.next().map_or(Ok(9), |number| number.parse()).map_err(|_| Stop::Text("no number of runs"))?;
+    let segments = read()?;
     let mut links = 0;
     let split = least(runs, |overlay| {
-        overlay.split(&segments, solver).expect("a split");
-    });
+        overlay.split(&segments, solver)?;
+        Ok(())
+    })?;
     let all = least(runs, |overlay| {
-        links = overlay.build_all(&segments, FillRule::NonZero, solver).expect("a graph").links().len();
-    });
-    println!("in={} links={links} split_ms={split:.4} all_ms={all:.4}", segments.len());
+        links = overlay.build_all(&segments, FillRule::NonZero, solver)?.links().len();
+        Ok(())
+    })?;
+    writeln!(out, "in={} links={links} split_ms={split:.4} all_ms={all:.4}", segments.len())?;
+    Ok(())
 }
 
 /// The segments of standard input. Its text is dropped, as the other program of a race drops it: so both time their runs over
 /// the same heap.
-fn read() -> Vec<Segment> {
+fn read() -> Result<Vec<Segment>, Stop> {
     let mut text = String::new();
-    std::io::stdin().read_to_string(&mut text).expect("text");
-    text.lines().map(segment).collect()
+    std::io::stdin().read_to_string(&mut text)?;
+    collect(text.lines().map(segment))
 }
 
 /// The least wall time of some runs, in milliseconds.
-fn least(runs: usize, mut call: impl FnMut(&mut Overlay)) -> f64 {
-    let times = (0..runs).map(|_| {
-        let mut overlay = Overlay::new().expect("memory");
+fn least(runs: usize, mut call: impl FnMut(&mut Overlay) -> Result<(), Stop>) -> Result<f64, Stop> {
+    (0..runs).try_fold(f64::INFINITY, |least, _| {
+        let mut overlay = Overlay::new()?;
         let start = Instant::now();
-        call(&mut overlay);
-        start.elapsed().as_secs_f64() * 1e3
-    });
-    times.fold(f64::INFINITY, f64::min)
+        call(&mut overlay)?;
+        Ok(least.min(start.elapsed().as_secs_f64() * 1e3))
+    })
 }
 
 /// The segment of a line.
-fn segment(line: &str) -> Segment {
+fn segment(line: &str) -> Result<Segment, Stop> {
     let mut words = line.split_whitespace();
     let shape = if words.next() == Some("S") { ShapeType::Subject } else { ShapeType::Clip };
-    let mut number = || words.next().and_then(|word| word.parse().ok()).expect("four numbers");
-    let (a, b) = (IntPoint::new(number(), number()), IntPoint::new(number(), number()));
-    Segment { a, b, count: shape.direct_count() }
+    let mut number = || words.next().and_then(|word| word.parse().ok()).ok_or(Stop::Text("a line has no four numbers"));
+    let (a, b) = (IntPoint::new(number()?, number()?), IntPoint::new(number()?, number()?));
+    Ok(Segment { a, b, count: shape.direct_count() })
 }

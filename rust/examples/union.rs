@@ -1,6 +1,6 @@
 //! The union of two squares, and the texts of the rules that it is made by.
 
-use i_overlay_core::{bounding_box, doubled_area, Error, FillRule, IntPoint, Overlay, OverlayRule};
+use fadrinzo::{bounding_box, doubled_area, Error, FillRule, IntPoint, Overlay, OverlayRule};
 
 fn main() -> Result<(), Error> {
     let subject = [[0, 0], [4, 0], [4, 4], [0, 4]].map(IntPoint::from);

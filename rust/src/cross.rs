@@ -60,7 +60,7 @@ pub struct CrossResult {
 /// The error's index is 0 for the target and 1 for the other.
 ///
 /// ```
-/// use i_overlay_core::{cross, CrossType, IntPoint, Segment, ShapeCountBoolean};
+/// use fadrinzo::{cross, CrossType, IntPoint, Segment, ShapeCountBoolean};
 ///
 /// let step = |ax, ay, bx, by| Segment {
 ///     a: IntPoint::new(ax, ay),
@@ -71,7 +71,7 @@ pub struct CrossResult {
 /// assert_eq!((found.point, found.cross_type), (IntPoint::new(5, 5), CrossType::Pure));
 /// let along = cross(&step(0, 0, 4, 0), &step(2, 0, 6, 0), 1)?.expect("they lie on one line");
 /// assert!(along.mask.is_target_b && along.mask.is_other_a);
-/// # Ok::<(), i_overlay_core::Error>(())
+/// # Ok::<(), fadrinzo::Error>(())
 /// ```
 pub fn cross(target: &Segment, other: &Segment, radius_squared: i64) -> Result<Option<CrossResult>, Error> {
     for (index, segment) in [target, other].into_iter().enumerate() {

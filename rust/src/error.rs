@@ -6,7 +6,7 @@ use std::fmt;
 /// Why the engine refused.
 #[derive(Clone, Copy, Debug, PartialEq, Eq)]
 pub enum Fault {
-    /// A growth was refused by the allocator.
+    /// A growth was refused by the allocator: of the engine, or of a list of this package.
     Memory,
     /// A sum of winding counts left the range `-i32::MAX..=i32::MAX`.
     CountOutOfRange,
@@ -24,7 +24,7 @@ pub enum Axis {
 /// A coordinate out of range.
 ///
 /// ```
-/// use i_overlay_core::{Axis, RangeFault, MAX_COORD};
+/// use fadrinzo::{Axis, RangeFault, MAX_COORD};
 ///
 /// let fault = RangeFault { axis: Axis::Y, value: 2_000_000_000, bound: MAX_COORD };
 /// assert_eq!(fault.to_string(), "y is 2000000000, the greatest is 1073741823");
@@ -53,7 +53,7 @@ pub enum SegmentFault {
 /// Why a call was refused. Its text says what is wrong with which point or segment.
 ///
 /// ```
-/// use i_overlay_core::{Error, FillRule, IntPoint, Overlay, OverlayRule, Segment, SegmentFault, ShapeType, MAX_COORD};
+/// use fadrinzo::{Error, FillRule, IntPoint, Overlay, OverlayRule, Segment, SegmentFault, ShapeType, MAX_COORD};
 ///
 /// let far = [IntPoint::ZERO, IntPoint::new(MAX_COORD + 1, 0)];
 /// let refused = Overlay::with_contours(&[far], &[]).unwrap_err();
@@ -153,6 +153,12 @@ impl fmt::Display for Error {
 }
 
 impl std::error::Error for Fault {}
+
+impl From<Fault> for Error {
+    fn from(fault: Fault) -> Error {
+        Error::Fault(fault)
+    }
+}
 
 impl std::error::Error for RangeFault {}
 

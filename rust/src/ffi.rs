@@ -4,7 +4,8 @@
 //! A slice crosses as a pointer and a length; a `Global` takes no bytes, and does not cross. Beside each call, `SAFETY`
 //! names the conditions (`requires`) of the export and says why they hold.
 
-use crate::{DataSegment, IntContour, IntPoint, IntShape, LineSegment, OverlayLink, Segment};
+use crate::memory::{collect, collect_all, copy, reserve};
+use crate::{DataSegment, Fault, IntContour, IntPoint, IntShape, LineSegment, OverlayLink, Segment};
 
 /// What holds an engine: `Handle` of `crates/overlay_c`. Null where it is empty.
 #[derive(Debug)]
@@ -60,7 +61,7 @@ impl Words {
     }
 }
 
-/// `ReportRecord` of `crates/overlay_c`: what an overlay of contours reports of its run.
+/// `ReportRecord` of `crates/overlay_c`: what an overlay of contours, or their arrangement, reports of its run.
 #[derive(Debug)]
 #[repr(C)]
 pub struct Report {
@@ -117,6 +118,7 @@ extern "C" {
     fn overlay_c_arranged_shapes(handle: &mut Handle, rule: u8, corners: bool) -> u8;
     fn overlay_c_locate(handle: &mut Handle, point: &IntPoint, shape: u8, fill: u8) -> u8;
     fn overlay_c_report(handle: &mut Handle) -> Report;
+    fn overlay_c_arranged_report(handle: &mut Handle) -> Report;
     fn overlay_c_clear(handle: &mut Handle);
     fn overlay_c_sizes(handle: &mut Handle) -> Sizes;
     fn overlay_c_segments(handle: &mut Handle, out: *mut Segment, out_len: usize);
@@ -152,7 +154,7 @@ extern "C" {
 #[allow(clippy::extra_unused_type_parameters, reason = "it makes the function generic")]
 fn need_archive<T>() {
     const {
-        if let Some(sentence) = option_env!("I_OVERLAY_CORE_NO_ARCHIVE") {
+        if let Some(sentence) = option_env!("FADRINZO_FAULT") {
             panic!("{}", sentence)
         }
     }
@@ -166,6 +168,9 @@ pub fn cross(target: &Segment, other: &Segment, radius_squared: i64) -> Cross {
     // has tested; `radius` is at least 1 here.
     unsafe { overlay_c_cross(target, other, radius_squared.max(1)) }
 }
+
+/// The status of a call for which there was no memory.
+pub const NO_MEMORY: u8 = 1;
 
 /// An engine of the archive. Its handle is full from `new` until it is dropped, which is the condition `engine` of
 /// every other export.
@@ -185,7 +190,9 @@ impl Engine {
         need_archive::<()>();
         let mut handle = Handle { at: std::ptr::null_mut() };
         // SAFETY: the handle is empty.
-        unsafe { overlay_c_new(&mut handle, snap_limit) }.then_some(Engine { handle })
+        let is_full = unsafe { overlay_c_new(&mut handle, snap_limit) };
+        // an engine is made of a full handle alone, since it frees its own at the end
+        is_full.then(|| Engine { handle })
     }
 
     /// Splits segments and builds a rule's graph, with closed walks if `walks` is true. Returns a status.
@@ -215,7 +222,9 @@ impl Engine {
             return status;
         }
         let len = self.sizes().segments;
-        links.reserve(len);
+        if reserve(links, len).is_err() {
+            return NO_MEMORY;
+        }
         // SAFETY: the handle is full, the split has returned 0 (`arranged`), and there is room for as many links as the engine
         // reports segments (`length`).
         let status = unsafe { overlay_c_build(&mut self.handle, settings, links.as_mut_ptr(), len) };
@@ -293,6 +302,12 @@ impl Engine {
         unsafe { overlay_c_report(&mut self.handle) }
     }
 
+    /// What the arrangement that is kept reports of its run; numbers of 0 where no contours are arranged.
+    pub fn arranged_report(&mut self) -> Report {
+        // SAFETY: the handle is full.
+        unsafe { overlay_c_arranged_report(&mut self.handle) }
+    }
+
     /// Drops the contours that were added.
     pub fn clear(&mut self) {
         // SAFETY: the handle is full.
@@ -306,35 +321,35 @@ impl Engine {
     }
 
     /// Copies the arrangement out, in place of what the list had.
-    pub fn copy_segments(&mut self, segments: &mut Vec<Segment>) {
+    pub fn copy_segments(&mut self, segments: &mut Vec<Segment>) -> Result<(), Fault> {
         let len = self.sizes().segments;
         // SAFETY: the handle is full, and the slice has the `length` that the engine reports.
         unsafe { fill(segments, len, |first| overlay_c_segments(&mut self.handle, first, len)) }
     }
 
     /// Copies the arrangement of polygons and lines out, in place of what the list had.
-    pub fn copy_lines(&mut self, lines: &mut Vec<LineSegment>) {
+    pub fn copy_lines(&mut self, lines: &mut Vec<LineSegment>) -> Result<(), Fault> {
         let len = self.sizes().lines;
         // SAFETY: the handle is full, and the slice has the `length` that the engine reports.
         unsafe { fill(lines, len, |first| overlay_c_lines(&mut self.handle, first, len)) }
     }
 
     /// Copies the links out, in place of what the list had.
-    pub fn copy_links(&mut self, links: &mut Vec<OverlayLink>) {
+    pub fn copy_links(&mut self, links: &mut Vec<OverlayLink>) -> Result<(), Fault> {
         let len = self.sizes().links;
         // SAFETY: the handle is full, and the slice has the `length` that the engine reports.
         unsafe { fill(links, len, |first| overlay_c_links(&mut self.handle, first, len)) }
     }
 
     /// Copies the numbers of links out, in place of what the list had: those of the last overlay with data.
-    pub fn copy_link_data(&mut self, data: &mut Vec<u64>) {
+    pub fn copy_link_data(&mut self, data: &mut Vec<u64>) -> Result<(), Fault> {
         let len = self.sizes().link_data;
         // SAFETY: the handle is full, and the slice has the `length` that the engine reports.
         unsafe { fill(data, len, |first| overlay_c_link_data(&mut self.handle, first, len)) }
     }
 
     /// Copies out how many links meet at each node, and then the indexes of these links, node after node.
-    pub fn copy_nodes(&mut self, degrees: &mut Vec<usize>, indexes: &mut Vec<usize>) {
+    pub fn copy_nodes(&mut self, degrees: &mut Vec<usize>, indexes: &mut Vec<usize>) -> Result<(), Fault> {
         let Sizes { nodes, node_links, .. } = self.sizes();
         let handle = &mut self.handle;
         // SAFETY: the handle is full, and the two slices, which do not overlap, have the lengths that the engine
@@ -348,7 +363,7 @@ impl Engine {
 
     /// Copies out how many links each walk has, and then the indexes of these links, walk after walk. There are none
     /// where the last call made no walks.
-    pub fn copy_walks(&mut self, lengths: &mut Vec<usize>, indexes: &mut Vec<usize>) {
+    pub fn copy_walks(&mut self, lengths: &mut Vec<usize>, indexes: &mut Vec<usize>) -> Result<(), Fault> {
         let Sizes { walks, walk_links, .. } = self.sizes();
         let handle = &mut self.handle;
         // SAFETY: the handle is full, and the two slices, which do not overlap, have the lengths that the engine
@@ -362,17 +377,17 @@ impl Engine {
 
     /// The shapes of the last overlay of contours, if it was in shapes, or the contours of each rule, if it was by several;
     /// else none.
-    pub fn shapes(&mut self) -> Vec<IntShape> {
+    pub fn shapes(&mut self) -> Result<Vec<IntShape>, Fault> {
         let len = self.sizes().shapes;
         let mut lengths = Vec::new();
         // SAFETY: the handle is full, and the slice has the `length` that the engine reports.
-        unsafe { fill(&mut lengths, len, |first| overlay_c_shape_lengths(&mut self.handle, first, len)) }
-        let mut contours = self.contours().into_iter();
-        lengths.into_iter().map(|length| contours.by_ref().take(length).collect()).collect()
+        unsafe { fill(&mut lengths, len, |first| overlay_c_shape_lengths(&mut self.handle, first, len)) }?;
+        let mut contours = self.contours()?.into_iter();
+        collect_all(lengths.into_iter().map(|length| collect(contours.by_ref().take(length))))
     }
 
     /// The contours of the last overlay of contours, those of shapes shape by shape.
-    pub fn contours(&mut self) -> Vec<IntContour> {
+    pub fn contours(&mut self) -> Result<Vec<IntContour>, Fault> {
         let Sizes { contours, contour_points: count, .. } = self.sizes();
         let (mut lengths, mut points) = (Vec::new(), Vec::new());
         let handle = &mut self.handle;
@@ -382,14 +397,13 @@ impl Engine {
             fill_both(&mut lengths, contours, &mut points, count, |one, other| {
                 overlay_c_contours(handle, one, contours, other, count)
             })
-        }
+        }?;
         let mut rest = points.as_slice();
-        let contours = lengths.into_iter().map(|length| {
+        collect_all(lengths.into_iter().map(|length| {
             let (contour, later) = rest.split_at(length);
             rest = later;
-            contour.to_vec()
-        });
-        contours.collect()
+            copy(contour)
+        }))
     }
 }
 
@@ -401,17 +415,18 @@ impl Drop for Engine {
 }
 
 /// Fills a list with the elements that a call writes from a pointer on, in place of what the list had. The call gets memory
-/// that nothing was written to, where any bytes are numbers of its records.
+/// that nothing was written to, where any bytes are numbers of its records. Where there is none the list is empty.
 ///
 /// # Safety
 ///
 /// The call has to write that many elements.
-unsafe fn fill<T: Copy>(list: &mut Vec<T>, len: usize, write: impl FnOnce(*mut T)) {
+unsafe fn fill<T: Copy>(list: &mut Vec<T>, len: usize, write: impl FnOnce(*mut T)) -> Result<(), Fault> {
     list.clear();
-    list.reserve(len);
+    reserve(list, len)?;
     write(list.as_mut_ptr());
     // SAFETY: there is room for them, and each was written.
     unsafe { list.set_len(len) }
+    Ok(())
 }
 
 /// Fills two lists in the same way. The first gets room for one element more, the end of the last list.
@@ -425,9 +440,16 @@ unsafe fn fill_both<T: Copy, U: Copy>(
     second: &mut Vec<U>,
     second_len: usize,
     write: impl FnOnce(*mut T, *mut U),
-) {
+) -> Result<(), Fault> {
     first.clear();
-    first.reserve(first_len + 1);
-    // SAFETY: the call writes both lists.
-    unsafe { fill(first, first_len, |one| fill(second, second_len, |other| write(one, other))) }
+    second.clear();
+    reserve(first, first_len + 1)?;
+    reserve(second, second_len)?;
+    write(first.as_mut_ptr(), second.as_mut_ptr());
+    // SAFETY: there is room for both, and each element was written.
+    unsafe {
+        first.set_len(first_len);
+        second.set_len(second_len);
+    }
+    Ok(())
 }

@@ -1,6 +1,9 @@
 //! Floating coordinates, over whole ones. Plain Rust, tested and not proved.
 
-use crate::{Axis, Error, FillRule, IntContour, IntPoint, Overlay, OverlayRule, ShapeType, MAX_COORD, MIN_COORD};
+use crate::memory::{collect, collect_all, push, reserve};
+use crate::{
+    Axis, Error, Fault, FillRule, IntContour, IntPoint, Overlay, OverlayRule, ShapeType, MAX_COORD, MIN_COORD,
+};
 use std::fmt;
 
 /// A point with floating coordinates.
@@ -16,7 +19,7 @@ pub type FloatShape = Vec<FloatContour>;
 #[derive(Clone, Copy, Debug, PartialEq)]
 #[non_exhaustive]
 pub enum FloatError {
-    /// A coordinate of a point is no finite number, or is outside of the bounds of the adapter.
+    /// A coordinate of a point is no finite number, or is outside of the bounds of the adapter by more than half a whole unit.
     Point {
         /// The shape of the contour.
         shape_type: ShapeType,
@@ -31,10 +34,10 @@ pub enum FloatError {
     },
     /// Bounds are not finite, or the least is above the greatest.
     Bounds,
-    /// A scale is not finite, or not above 0, or so great that the bounds do not fit; then `most` is the greatest that is a
-    /// power of two.
+    /// A scale is not finite, or not above 0, or so great that the bounds do not fit, or that a whole unit is less than the last
+    /// bit of the bounds. The greatest power of two that is not so great is `most`.
     Scale {
-        /// The greatest power of two that fits.
+        /// The greatest power of two that may be chosen.
         most: f64,
     },
     /// The overlay of the whole points was refused.
@@ -50,7 +53,7 @@ impl fmt::Display for FloatError {
             }
             FloatError::Bounds => f.write_str("the bounds are not finite, or the least is above the greatest"),
             FloatError::Scale { most } => {
-                write!(f, "the scale has to be above 0 and at most {most}, where the bounds fit")
+                write!(f, "the scale has to be above 0 and at most {most}, where the bounds and their digits fit")
             }
             FloatError::Overlay(error) => error.fmt(f),
         }
@@ -58,6 +61,12 @@ impl fmt::Display for FloatError {
 }
 
 impl std::error::Error for FloatError {}
+
+impl From<Fault> for FloatError {
+    fn from(fault: Fault) -> FloatError {
+        FloatError::Overlay(fault.into())
+    }
+}
 
 impl From<Error> for FloatError {
     fn from(error: Error) -> FloatError {
@@ -69,37 +78,46 @@ impl From<Error> for FloatError {
 /// units there are in one unit.
 ///
 /// Each coordinate is rounded to the nearest whole one, so a point moves by at most half a whole unit in `x` and in `y`, and
-/// crossings by half a unit more. A chosen scale is the greatest power of two at which the bounds fit: a box of 1,000 units
-/// has 2^20 whole units for each. So even a coarse grid has room below its unit, and small overlaps stay.
+/// crossings by half a unit more. A chosen scale is the greatest power of two at which the bounds fit and a whole unit is no
+/// less than the last bit of the bounds: a box of 1,000 units has 2^21 whole units for each. So even a coarse grid has room
+/// below its unit, and small overlaps stay.
+///
+/// Written with fewer digits, points of a result may fall together: give the scale of the digits that you write, as 1e7 for
+/// seven of them.
 ///
 /// ```
-/// use i_overlay_core::FloatPointAdapter;
+/// use fadrinzo::FloatPointAdapter;
 ///
 /// let adapter = FloatPointAdapter::new([-1.0, 0.0], [3.0, 2.0])?;
 /// assert_eq!(adapter.scale(), f64::powi(2.0, 28));
 /// let whole = adapter.to_int([0.5, 0.25]).unwrap();
 /// assert_eq!(adapter.to_float(whole), [0.5, 0.25]);
 /// assert_eq!(adapter.to_int([f64::NAN, 0.0]), None);
-/// assert_eq!(adapter.to_int([1e9, 0.0]), None);
-/// # Ok::<(), i_overlay_core::FloatError>(())
+/// assert_eq!(adapter.to_int([3.5, 0.0]), None);
+/// # Ok::<(), fadrinzo::FloatError>(())
 /// ```
 #[derive(Clone, Copy, Debug, PartialEq)]
 pub struct FloatPointAdapter {
     center: FloatPoint,
     scale: f64,
+    /// The whole points of the least and of the greatest point of the bounds.
+    whole: [IntPoint; 2],
+    /// The last bit of the greatest coordinate of the bounds.
+    last_bit: f64,
 }
 
 impl FloatPointAdapter {
-    /// The adapter of bounds, with the greatest power of two as its scale at which they fit.
+    /// The adapter of bounds, with the greatest power of two as its scale at which they fit and no whole unit is less than their
+    /// last bit.
     pub fn new(least: FloatPoint, greatest: FloatPoint) -> Result<FloatPointAdapter, FloatError> {
-        let scale = greatest_scale(least, greatest)?;
-        Ok(FloatPointAdapter { center: center(least, greatest), scale })
+        check_bounds(least, greatest)?;
+        Ok(FloatPointAdapter::of_bounds(least, greatest))
     }
 
     /// The adapter of bounds with a given scale, as 1000.0 for millimeters where a unit is a meter.
     ///
     /// ```
-    /// use i_overlay_core::{FloatError, FloatPointAdapter};
+    /// use fadrinzo::{FloatError, FloatPointAdapter};
     ///
     /// let millimeters = FloatPointAdapter::with_scale([0.0, 0.0], [2e6, 2e6], 1000.0)?;
     /// assert_eq!(millimeters.to_float(millimeters.to_int([12.3456, 0.0]).unwrap()), [12.346, 0.0]);
@@ -108,11 +126,14 @@ impl FloatPointAdapter {
     /// # Ok::<(), FloatError>(())
     /// ```
     pub fn with_scale(least: FloatPoint, greatest: FloatPoint, scale: f64) -> Result<FloatPointAdapter, FloatError> {
-        let most = greatest_scale(least, greatest)?;
-        let adapter = FloatPointAdapter { center: center(least, greatest), scale };
-        let fits =
-            scale.is_finite() && scale > 0.0 && [least, greatest].iter().all(|&point| adapter.to_int(point).is_some());
-        fits.then_some(adapter).ok_or(FloatError::Scale { most })
+        check_bounds(least, greatest)?;
+        let center = center(least, greatest, 1.0);
+        let last_bit = last_bit(least, greatest);
+        let is_fine = scale.is_finite() && scale > 0.0 && scale * last_bit <= 1.0;
+        match whole_bounds(center, scale, least, greatest) {
+            Some(whole) if is_fine => Ok(FloatPointAdapter { center, scale, whole, last_bit }),
+            _ => Err(FloatError::Scale { most: greatest_scale(center, least, greatest).0 }),
+        }
     }
 
     /// The adapter of the bounds of points. Points that are not finite are passed over; an overlay names them.
@@ -127,9 +148,17 @@ impl FloatPointAdapter {
         if least[0] > greatest[0] {
             (least, greatest) = ([0.0; 2], [0.0; 2]);
         }
-        // bounds so far apart that their distance is no number do not fit: they get the least scale
-        FloatPointAdapter::new(least, greatest)
-            .unwrap_or(FloatPointAdapter { center: [0.0; 2], scale: f64::powi(2.0, -994) })
+        FloatPointAdapter::of_bounds(least, greatest)
+    }
+
+    /// The adapter of finite bounds in order.
+    fn of_bounds(least: FloatPoint, greatest: FloatPoint) -> FloatPointAdapter {
+        // the center is a multiple of a power of two that is no more than the half width, so it is a whole number of units
+        let half = (0..2).map(|axis| greatest[axis] / 2.0 - least[axis] / 2.0).fold(0.0, f64::max);
+        let grain = power_below(half.max(last_bit(least, greatest))).min(1.0);
+        let center = center(least, greatest, grain);
+        let (scale, whole) = greatest_scale(center, least, greatest);
+        FloatPointAdapter { center, scale, whole, last_bit: last_bit(least, greatest) }
     }
 
     /// How many whole units there are in one unit.
@@ -137,58 +166,96 @@ impl FloatPointAdapter {
         self.scale
     }
 
-    /// The nearest whole point. `None` where a coordinate is not finite, or too far from the center.
+    /// The nearest whole point. `None` where a coordinate is not finite, or outside of the bounds by more than half a whole unit.
     pub fn to_int(&self, point: FloatPoint) -> Option<IntPoint> {
-        let whole = |axis: usize| {
-            let scaled = ((point[axis] - self.center[axis]) * self.scale).round();
-            (f64::from(MIN_COORD) <= scaled && scaled <= f64::from(MAX_COORD)).then_some(scaled as i32)
-        };
-        Some(IntPoint::new(whole(0)?, whole(1)?))
+        let [low, high] = self.whole;
+        let whole = whole_point(self.center, self.scale, point)?;
+        let is_within = low.x <= whole.x && whole.x <= high.x && low.y <= whole.y && whole.y <= high.y;
+        is_within.then_some(whole)
     }
 
     /// The point of a whole point.
     pub fn to_float(&self, point: IntPoint) -> FloatPoint {
-        [(point.x, 0), (point.y, 1)]
-            .map(|(value, axis)| (f64::from(value) + self.center[axis] * self.scale) / self.scale)
+        [(point.x, 0), (point.y, 1)].map(|(value, axis)| {
+            // in one division, so that a decimal scale returns the nearest number to a decimal
+            let units = f64::from(value) + self.center[axis] * self.scale;
+            (units / self.scale).clamp(f64::MIN, f64::MAX)
+        })
     }
 
     /// The points of a whole contour.
-    fn contour_to_float(&self, contour: &IntContour) -> FloatContour {
-        contour.iter().map(|&point| self.to_float(point)).collect()
+    fn contour_to_float(&self, contour: &IntContour) -> Result<FloatContour, Fault> {
+        collect(contour.iter().map(|&point| self.to_float(point)))
     }
 }
 
-/// The middle of bounds, in whole numbers if these are near enough.
-fn center(least: FloatPoint, greatest: FloatPoint) -> FloatPoint {
-    [0, 1].map(|axis| (least[axis] / 2.0 + greatest[axis] / 2.0).round())
+/// The error of bounds that are not finite, or not in order.
+fn check_bounds(least: FloatPoint, greatest: FloatPoint) -> Result<(), FloatError> {
+    let are_bounds =
+        |axis: usize| least[axis].is_finite() && greatest[axis].is_finite() && least[axis] <= greatest[axis];
+    (are_bounds(0) && are_bounds(1)).then_some(()).ok_or(FloatError::Bounds)
 }
 
-/// The greatest power of two at which bounds fit, with one whole unit to spare on each side.
-fn greatest_scale(least: FloatPoint, greatest: FloatPoint) -> Result<f64, FloatError> {
-    let center = center(least, greatest);
-    let reach = (0..2).map(|axis| (greatest[axis] - center[axis]).max(center[axis] - least[axis]));
-    let farthest = reach.fold(0.0, f64::max);
-    let are_bounds = (0..2).all(|axis| least[axis] <= greatest[axis]) && farthest.is_finite();
-    if !are_bounds {
-        return Err(FloatError::Bounds);
+/// The middle of bounds, to a multiple of a power of two.
+fn center(least: FloatPoint, greatest: FloatPoint, grain: f64) -> FloatPoint {
+    [0, 1].map(|axis| {
+        let middle = least[axis] / 2.0 + greatest[axis] / 2.0;
+        let grains = (middle / grain).round();
+        if grains.is_finite() {
+            grains * grain
+        } else {
+            middle
+        }
+    })
+}
+
+/// The greatest power of two that is no more than a number above 0, or the least normal one.
+fn power_below(number: f64) -> f64 {
+    const EXPONENT: u64 = 0x7ff0_0000_0000_0000;
+    f64::from_bits(number.to_bits() & EXPONENT).max(f64::MIN_POSITIVE)
+}
+
+/// The last bit of the greatest coordinate of bounds, or that of the least number whose last bit is normal.
+fn last_bit(least: FloatPoint, greatest: FloatPoint) -> f64 {
+    let farthest = least.iter().chain(&greatest).fold(0.0, |most: f64, value| most.max(value.abs()));
+    (power_below(farthest) * f64::EPSILON).max(f64::MIN_POSITIVE)
+}
+
+/// The nearest whole point by a center and a scale. `None` where it is out of range.
+fn whole_point(center: FloatPoint, scale: f64, point: FloatPoint) -> Option<IntPoint> {
+    let whole = |axis: usize| {
+        let scaled = ((point[axis] - center[axis]) * scale).round();
+        (f64::from(MIN_COORD) <= scaled && scaled <= f64::from(MAX_COORD)).then_some(scaled as i32)
+    };
+    Some(IntPoint::new(whole(0)?, whole(1)?))
+}
+
+/// The whole points of bounds, where both are in range.
+fn whole_bounds(center: FloatPoint, scale: f64, least: FloatPoint, greatest: FloatPoint) -> Option<[IntPoint; 2]> {
+    Some([whole_point(center, scale, least)?, whole_point(center, scale, greatest)?])
+}
+
+/// The greatest power of two at which bounds fit and a whole unit is no less than their last bit, and the whole bounds.
+fn greatest_scale(center: FloatPoint, least: FloatPoint, greatest: FloatPoint) -> (f64, [IntPoint; 2]) {
+    let mut scale = (1.0 / last_bit(least, greatest)).min(f64::powi(2.0, 1000));
+    loop {
+        if let Some(whole) = whole_bounds(center, scale, least, greatest) {
+            return (scale, whole);
+        }
+        scale /= 2.0;
     }
-    let mut exponent = 29 - farthest.max(f64::MIN_POSITIVE).log2().floor() as i32;
-    while farthest * f64::powi(2.0, exponent) > f64::from(MAX_COORD - 1) {
-        exponent -= 1;
-    }
-    Ok(f64::powi(2.0, exponent.min(1000)))
 }
 
 /// An overlay of contours with floating coordinates: they are turned into whole points by one adapter, and the results back.
 ///
 /// ```
-/// use i_overlay_core::{FillRule, FloatOverlay, OverlayRule};
+/// use fadrinzo::{FillRule, FloatOverlay, OverlayRule};
 ///
 /// let square = |low: f64, high: f64| [[low, low], [high, low], [high, high], [low, high]];
 /// let mut overlay = FloatOverlay::with_contours(&[square(0.0, 0.5)], &[square(0.25, 0.75)])?;
 /// let shapes = overlay.overlay_shapes(OverlayRule::Intersect, FillRule::NonZero)?;
 /// assert_eq!(shapes, [[[[0.25, 0.5], [0.25, 0.25], [0.5, 0.25], [0.5, 0.5]]]]);
-/// # Ok::<(), i_overlay_core::FloatError>(())
+/// # Ok::<(), fadrinzo::FloatError>(())
 /// ```
 #[derive(Debug)]
 pub struct FloatOverlay {
@@ -204,11 +271,12 @@ impl FloatOverlay {
         Ok(FloatOverlay { overlay: Overlay::new()?, adapter, contour: Vec::new(), contour_counts: [0; 2] })
     }
 
-    /// An overlay of contours, by the adapter of their bounds. The direction of a contour counts, but for
-    /// [`FillRule::EvenOdd`]: under [`FillRule::NonZero`] two contours that overlap and run in opposite directions cancel.
+    /// An overlay of contours, by the adapter of their bounds. Under [`FillRule::NonZero`] two contours that overlap and run in
+    /// opposite directions cancel. Under [`FillRule::EvenOdd`] the direction of a contour changes the region by no more than
+    /// half a whole unit, but it may change points.
     ///
     /// ```
-    /// use i_overlay_core::FloatOverlay;
+    /// use fadrinzo::FloatOverlay;
     ///
     /// let refused = FloatOverlay::with_contours(&[[[0.0, 0.0], [1.0, 0.0], [0.5, f64::NAN]]], &[]).unwrap_err();
     /// assert_eq!(refused.to_string(), "contour 0 of the subject, point 2: y is NaN, which is no finite number");
@@ -238,14 +306,14 @@ impl FloatOverlay {
     /// not finite or outside of the bounds nothing is added.
     ///
     /// ```
-    /// use i_overlay_core::{area_of_shape, FillRule, FloatOverlay, FloatPointAdapter, OverlayRule, ShapeType};
+    /// use fadrinzo::{area_of_shape, FillRule, FloatOverlay, FloatPointAdapter, OverlayRule, ShapeType};
     ///
     /// let square = |low: f64, high: f64| [[low, low], [high, low], [high, high], [low, high]];
     /// let mut overlay = FloatOverlay::with_adapter(FloatPointAdapter::new([0.0; 2], [1.0; 2])?)?;
     /// overlay.add_polygon(&square(0.0, 1.0), &[square(0.25, 0.75)], ShapeType::Subject)?;
     /// let shapes = overlay.overlay_shapes(OverlayRule::Subject, FillRule::NonZero)?;
     /// assert_eq!((shapes.len(), area_of_shape(&shapes[0])), (1, 0.75));
-    /// # Ok::<(), i_overlay_core::FloatError>(())
+    /// # Ok::<(), fadrinzo::FloatError>(())
     /// ```
     pub fn add_polygon<C: AsRef<[FloatPoint]>>(
         &mut self,
@@ -254,11 +322,12 @@ impl FloatOverlay {
         shape_type: ShapeType,
     ) -> Result<(), FloatError> {
         let first = self.contour_counts[shape_type as usize];
-        let mut rings = Vec::with_capacity(1 + holes.len());
+        let mut rings = Vec::new();
+        reserve(&mut rings, 1 + holes.len())?;
         for (contour, ring) in (first..).zip(std::iter::once(outer).chain(holes)) {
             let mut whole = Vec::new();
             push_whole(&self.adapter, ring.as_ref(), shape_type, contour, &mut whole)?;
-            rings.push(whole);
+            push(&mut rings, whole)?;
         }
         self.overlay.add_polygon(&rings[0], &rings[1..], shape_type)?;
         self.contour_counts[shape_type as usize] += rings.len();
@@ -273,7 +342,7 @@ impl FloatOverlay {
     /// The overlay as contours: outer boundaries run counterclockwise, and holes clockwise.
     pub fn overlay(&mut self, overlay_rule: OverlayRule, fill_rule: FillRule) -> Result<Vec<FloatContour>, FloatError> {
         let contours = self.overlay.overlay(overlay_rule, fill_rule)?;
-        Ok(contours.iter().map(|contour| self.adapter.contour_to_float(contour)).collect())
+        Ok(collect_all(contours.iter().map(|contour| self.adapter.contour_to_float(contour)))?)
     }
 
     /// The overlay as shapes: each an outer boundary, followed by its holes.
@@ -283,14 +352,15 @@ impl FloatOverlay {
         fill_rule: FillRule,
     ) -> Result<Vec<FloatShape>, FloatError> {
         let shapes = self.overlay.overlay_shapes(overlay_rule, fill_rule)?;
-        let shape = |contours: &Vec<IntContour>| contours.iter().map(|it| self.adapter.contour_to_float(it)).collect();
-        Ok(shapes.iter().map(shape).collect())
+        let shape =
+            |contours: &Vec<IntContour>| collect_all(contours.iter().map(|it| self.adapter.contour_to_float(it)));
+        Ok(collect_all(shapes.iter().map(shape))?)
     }
 
-    /// How far the last overlay moved edges at most, in `x` and in `y`: what the rounding of given points moved them, and what
-    /// the rounding of crossings did.
+    /// How far the last overlay moved edges at most, in `x` and in `y`: what the rounding of given points moved them, what the
+    /// rounding of crossings did, and the last bit of the bounds.
     pub fn reach(&self) -> f64 {
-        (0.5 + 0.5 * self.overlay.reach() as f64) / self.adapter.scale
+        (0.5 + 0.5 * self.overlay.reach() as f64) / self.adapter.scale + self.adapter.last_bit
     }
 }
 
@@ -302,6 +372,7 @@ fn push_whole(
     index: usize,
     whole: &mut IntContour,
 ) -> Result<(), FloatError> {
+    reserve(whole, contour.len())?;
     for (place, &point) in contour.iter().enumerate() {
         let Some(it) = adapter.to_int(point) else {
             return Err(bad_point(adapter, shape_type, index, place, point));
@@ -319,7 +390,9 @@ fn bad_point(
     point: usize,
     at: FloatPoint,
 ) -> FloatError {
-    let axis = if adapter.to_int([at[0], adapter.center[1]]).is_none() { Axis::X } else { Axis::Y };
+    // the second coordinate is taken from within the bounds
+    let within = adapter.to_float(adapter.whole[0]);
+    let axis = if adapter.to_int([at[0], within[1]]).is_none() { Axis::X } else { Axis::Y };
     FloatError::Point { shape_type, contour, point, axis, value: at[axis as usize] }
 }
 
@@ -327,7 +400,7 @@ fn bad_point(
 /// loses no digits far from the origin.
 ///
 /// ```
-/// use i_overlay_core::area;
+/// use fadrinzo::area;
 ///
 /// let square = [[1e6, 1e6], [1e6 + 2.0, 1e6], [1e6 + 2.0, 1e6 + 2.0], [1e6, 1e6 + 2.0]];
 /// assert_eq!(area(&square), 4.0);
@@ -342,7 +415,7 @@ pub fn area(contour: &[FloatPoint]) -> f64 {
 /// The area of a shape with floating coordinates: that of its outer boundary less those of its holes.
 ///
 /// ```
-/// use i_overlay_core::area_of_shape;
+/// use fadrinzo::area_of_shape;
 ///
 /// let outer = [[0.0, 0.0], [4.0, 0.0], [4.0, 4.0], [0.0, 4.0]];
 /// let hole = [[1.0, 1.0], [1.0, 2.0], [2.0, 2.0], [2.0, 1.0]];

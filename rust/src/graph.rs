@@ -51,14 +51,14 @@ impl<'a> OverlayGraph<'a> {
     /// The links, in the order of the segments.
     ///
     /// ```
-    /// use i_overlay_core::{square, FillRule, Overlay, OverlayRule, ShapeType};
+    /// use fadrinzo::{square, FillRule, Overlay, OverlayRule, ShapeType};
     ///
     /// let mut segments = Vec::new();
-    /// ShapeType::Subject.push_contour(&square(0, 4), &mut segments);
+    /// ShapeType::Subject.push_contour(&square(0, 4), &mut segments)?;
     /// let mut overlay = Overlay::new()?;
     /// let graph = overlay.build_graph(&segments, OverlayRule::Subject, FillRule::NonZero)?;
     /// assert!(graph.links().windows(2).all(|two| two[0].a.point <= two[1].a.point));
-    /// # Ok::<(), i_overlay_core::Error>(())
+    /// # Ok::<(), fadrinzo::Error>(())
     /// ```
     pub fn links(&self) -> &'a [OverlayLink] {
         self.links
@@ -68,16 +68,16 @@ impl<'a> OverlayGraph<'a> {
     /// given without numbers.
     ///
     /// ```
-    /// use i_overlay_core::{square, DataSegment, FillRule, Overlay, OverlayRule, ShapeType, Solver};
+    /// use fadrinzo::{square, DataSegment, FillRule, Overlay, OverlayRule, ShapeType, Solver};
     ///
     /// let mut sides = Vec::new();
-    /// ShapeType::Subject.push_contour(&square(0, 4), &mut sides);
+    /// ShapeType::Subject.push_contour(&square(0, 4), &mut sides)?;
     /// let numbered: Vec<_> = sides.iter().map(|&segment| DataSegment { segment, data: 7 }).collect();
     /// let mut overlay = Overlay::new()?;
     /// let (rule, fill) = (OverlayRule::Subject, FillRule::NonZero);
     /// assert_eq!(overlay.build_graph_with_data(&numbered, rule, fill, Solver::AUTO)?.data(), [7; 4]);
     /// assert!(overlay.build_graph(&sides, rule, fill)?.data().is_empty());
-    /// # Ok::<(), i_overlay_core::Error>(())
+    /// # Ok::<(), fadrinzo::Error>(())
     /// ```
     pub fn data(&self) -> &'a [u64] {
         self.data
@@ -86,14 +86,14 @@ impl<'a> OverlayGraph<'a> {
     /// How many nodes there are.
     ///
     /// ```
-    /// use i_overlay_core::{square, FillRule, Overlay, OverlayRule, ShapeType};
+    /// use fadrinzo::{square, FillRule, Overlay, OverlayRule, ShapeType};
     ///
     /// let mut segments = Vec::new();
-    /// ShapeType::Subject.push_contour(&square(0, 4), &mut segments);
+    /// ShapeType::Subject.push_contour(&square(0, 4), &mut segments)?;
     /// let mut overlay = Overlay::new()?;
     /// let graph = overlay.build_graph(&segments, OverlayRule::Subject, FillRule::NonZero)?;
     /// assert_eq!(graph.node_count(), 4);
-    /// # Ok::<(), i_overlay_core::Error>(())
+    /// # Ok::<(), fadrinzo::Error>(())
     /// ```
     pub fn node_count(&self) -> usize {
         self.starts.len() - 1
@@ -102,15 +102,15 @@ impl<'a> OverlayGraph<'a> {
     /// The node with this number.
     ///
     /// ```
-    /// use i_overlay_core::{square, FillRule, Overlay, OverlayNode, OverlayRule, ShapeType};
+    /// use fadrinzo::{square, FillRule, Overlay, OverlayNode, OverlayRule, ShapeType};
     ///
     /// let mut segments = Vec::new();
-    /// ShapeType::Subject.push_contour(&square(0, 4), &mut segments);
+    /// ShapeType::Subject.push_contour(&square(0, 4), &mut segments)?;
     /// let mut overlay = Overlay::new()?;
     /// let graph = overlay.build_graph(&segments, OverlayRule::Subject, FillRule::NonZero)?;
     /// assert_eq!(graph.node(0), Some(OverlayNode::Bridge([0, 1])));
     /// assert_eq!(graph.node(4), None);
-    /// # Ok::<(), i_overlay_core::Error>(())
+    /// # Ok::<(), fadrinzo::Error>(())
     /// ```
     pub fn node(&self, id: usize) -> Option<OverlayNode<'a>> {
         let (&start, &end) = (self.starts.get(id)?, self.starts.get(id + 1)?);
@@ -124,14 +124,14 @@ impl<'a> OverlayGraph<'a> {
     /// The nodes, in the order of their points.
     ///
     /// ```
-    /// use i_overlay_core::{square, FillRule, Overlay, OverlayNode, OverlayRule, ShapeType};
+    /// use fadrinzo::{square, FillRule, Overlay, OverlayNode, OverlayRule, ShapeType};
     ///
     /// let mut segments = Vec::new();
-    /// ShapeType::Subject.push_contour(&square(0, 4), &mut segments);
+    /// ShapeType::Subject.push_contour(&square(0, 4), &mut segments)?;
     /// let mut overlay = Overlay::new()?;
     /// let graph = overlay.build_graph(&segments, OverlayRule::Subject, FillRule::NonZero)?;
     /// assert!(graph.nodes().all(|node| matches!(node, OverlayNode::Bridge(_))));
-    /// # Ok::<(), i_overlay_core::Error>(())
+    /// # Ok::<(), fadrinzo::Error>(())
     /// ```
     pub fn nodes(&self) -> impl Iterator<Item = OverlayNode<'a>> + '_ {
         (0..self.node_count()).filter_map(|id| self.node(id))

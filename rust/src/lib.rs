@@ -5,6 +5,13 @@
 #[allow(unsafe_code)]
 mod ffi;
 
+#[allow(unsafe_code)]
+mod heap;
+
+#[cfg(shipped)]
+#[allow(unsafe_code)]
+mod shipped;
+
 mod arrangement;
 mod clip;
 mod cross;
@@ -12,6 +19,7 @@ mod error;
 mod float;
 mod graph;
 mod measure;
+mod memory;
 mod names;
 mod overlay;
 mod point;

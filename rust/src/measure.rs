@@ -20,7 +20,7 @@ pub enum PointLocation {
 /// proved.
 ///
 /// ```
-/// use i_overlay_core::{doubled_area, square, IntPoint};
+/// use fadrinzo::{doubled_area, square, IntPoint};
 ///
 /// let mut contour = square(0, 4).to_vec();
 /// assert_eq!(doubled_area(&contour), 32);
@@ -39,12 +39,12 @@ pub fn doubled_area(contour: &[IntPoint]) -> i128 {
 /// proved.
 ///
 /// ```
-/// use i_overlay_core::{doubled_area_of_shape, square, FillRule, Overlay, OverlayRule};
+/// use fadrinzo::{doubled_area_of_shape, square, FillRule, Overlay, OverlayRule};
 ///
 /// let mut overlay = Overlay::with_contours(&[square(0, 9)], &[square(3, 6)])?;
 /// let shapes = overlay.overlay_shapes(OverlayRule::Difference, FillRule::NonZero)?;
 /// assert_eq!(doubled_area_of_shape(&shapes[0]), 2 * (81 - 9));
-/// # Ok::<(), i_overlay_core::Error>(())
+/// # Ok::<(), fadrinzo::Error>(())
 /// ```
 pub fn doubled_area_of_shape<C: AsRef<[IntPoint]>>(shape: &[C]) -> i128 {
     shape.iter().map(|contour| doubled_area(contour.as_ref())).sum()
@@ -55,7 +55,7 @@ pub fn doubled_area_of_shape<C: AsRef<[IntPoint]>>(shape: &[C]) -> i128 {
 /// The box of a shape is that of its outer boundary, which is its first contour. This function is tested, not proved.
 ///
 /// ```
-/// use i_overlay_core::{bounding_box, IntPoint};
+/// use fadrinzo::{bounding_box, IntPoint};
 ///
 /// let points = [(2, 9), (7, 1), (4, 4)].map(IntPoint::from);
 /// assert_eq!(bounding_box(&points), Some([(2, 1), (7, 9)].map(IntPoint::from)));

@@ -4,10 +4,11 @@ use crate::{Engine, FillRule, OverlayRule, Precision, Rounding, RuleTable, Shape
 use std::fmt;
 use std::str::FromStr;
 
-/// A word that is no name of what was wanted. Its text has the names.
+/// A word that is no name of what was wanted. Its text has the names, and the word, if there was memory for it; `Clone` aborts
+/// where there is none.
 ///
 /// ```
-/// use i_overlay_core::{FillRule, OverlayRule};
+/// use fadrinzo::{FillRule, OverlayRule};
 ///
 /// let unknown = "odd".parse::<FillRule>().unwrap_err();
 /// assert_eq!(unknown.to_string(), "`odd` is no fill rule; write evenodd, nonzero, positive, negative");
@@ -18,6 +19,16 @@ pub struct UnknownName {
     word: String,
     kind: &'static str,
     names: &'static str,
+}
+
+impl UnknownName {
+    fn new(word: &str, kind: &'static str, names: &'static str) -> UnknownName {
+        let mut kept = String::new();
+        if kept.try_reserve_exact(word.len()).is_ok() {
+            kept.push_str(word);
+        }
+        UnknownName { word: kept, kind, names }
+    }
 }
 
 impl fmt::Display for UnknownName {
@@ -45,7 +56,7 @@ macro_rules! named {
             fn from_str(word: &str) -> Result<$kind, UnknownName> {
                 match word {
                     $($name $(| $other)? => Ok($kind::$value),)+
-                    _ => Err(UnknownName { word: word.into(), kind: $words, names: $names }),
+                    _ => Err(UnknownName::new(word, $words, $names)),
                 }
             }
         }
@@ -82,7 +93,7 @@ const OVERLAY_RULES: [(&str, OverlayRule); 7] = [
 impl fmt::Display for OverlayRule {
     fn fmt(&self, f: &mut fmt::Formatter<'_>) -> fmt::Result {
         match (self, OVERLAY_RULES.iter().find(|(_, rule)| rule == self)) {
-            (OverlayRule::Table(table), _) => f.pad(&format!("table:{}", table.bits())),
+            (OverlayRule::Table(table), _) => f.pad(ShortText::of(format_args!("table:{}", table.bits())).as_str()),
             (_, named) => f.pad(named.expect("each other rule has a name").0),
         }
     }
@@ -97,14 +108,14 @@ impl FromStr for OverlayRule {
             None => OVERLAY_RULES.iter().find(|(name, _)| *name == word).map(|&(_, rule)| rule),
         };
         let names = "subject, clip, intersect, union, difference, inverse-difference, xor, table:N (N from 0 to 15)";
-        rule.ok_or_else(|| UnknownName { word: word.into(), kind: "overlay rule", names })
+        rule.ok_or_else(|| UnknownName::new(word, "overlay rule", names))
     }
 }
 
 /// The table whose bits the digits write, without leading zeros.
 fn table(digits: &str) -> Option<RuleTable> {
     let table = RuleTable::new(digits.parse().ok()?)?;
-    (table.bits().to_string() == digits).then_some(table)
+    (ShortText::of(format_args!("{}", table.bits())).as_str() == digits).then_some(table)
 }
 
 const PRECISIONS: [(&str, Precision); 6] = [
@@ -120,7 +131,7 @@ impl fmt::Display for Precision {
     fn fmt(&self, f: &mut fmt::Formatter<'_>) -> fmt::Result {
         match PRECISIONS.iter().find(|(_, precision)| precision == self) {
             Some((name, _)) => f.pad(name),
-            None => f.pad(&format!("{},{}", self.start, self.progression)),
+            None => f.pad(ShortText::of(format_args!("{},{}", self.start, self.progression)).as_str()),
         }
     }
 }
@@ -133,16 +144,43 @@ impl FromStr for Precision {
             Some((start, step)) => numbered_precision(start, step),
             None => PRECISIONS.iter().find(|(name, _)| *name == word).map(|&(_, precision)| precision),
         };
-        let names = "absolute, high, medium-high, medium, medium-low, low, START,STEP (each of 1 to 9 digits)";
-        precision.ok_or_else(|| UnknownName { word: word.into(), kind: "precision", names })
+        let names = "absolute, high, medium-high, medium, medium-low, low, START,STEP (two whole numbers)";
+        precision.ok_or_else(|| UnknownName::new(word, "precision", names))
     }
 }
 
-/// The precision of two numbers, each of 1 to 9 digits.
+/// The precision of two numbers. The programs read up to 9 digits of each, with which a pass snaps as far as it can.
 fn numbered_precision(start: &str, step: &str) -> Option<Precision> {
     let number = |digits: &str| {
-        let is_short = digits.len() <= 9 && digits.bytes().all(|digit| digit.is_ascii_digit());
-        is_short.then(|| digits.parse().ok())?
+        let is_whole = !digits.is_empty() && digits.bytes().all(|digit| digit.is_ascii_digit());
+        is_whole.then(|| digits.parse().ok())?
     };
     Some(Precision { start: number(start)?, progression: number(step)? })
+}
+
+/// A text of two numbers at most, which takes no memory of the system.
+struct ShortText {
+    bytes: [u8; 48],
+    len: usize,
+}
+
+impl ShortText {
+    fn of(arguments: fmt::Arguments<'_>) -> ShortText {
+        let mut text = ShortText { bytes: [0; 48], len: 0 };
+        fmt::Write::write_fmt(&mut text, arguments).expect("two numbers of 20 digits fit");
+        text
+    }
+
+    fn as_str(&self) -> &str {
+        std::str::from_utf8(&self.bytes[..self.len]).expect("whole texts were written")
+    }
+}
+
+impl fmt::Write for ShortText {
+    fn write_str(&mut self, text: &str) -> fmt::Result {
+        let end = self.len + text.len();
+        self.bytes.get_mut(self.len..end).ok_or(fmt::Error)?.copy_from_slice(text.as_bytes());
+        self.len = end;
+        Ok(())
+    }
 }

@@ -1,6 +1,7 @@
 //! The engine: splits, graphs and contours, one after another.
 
 use crate::error::{fault_of, fault_of_data, fault_of_line, outcome, point_error};
+use crate::memory::{collect, collect_all, push};
 use crate::{
     doubled_area, ffi, ClipRule, DataSegment, Engine, Error, Fault, FillRule, IntContour, IntPoint, IntShape,
     LineSegment, OverlayGraph, OverlayLink, OverlayRule, PointLocation, Rounding, Segment, ShapeType, Solver,
@@ -23,12 +24,12 @@ pub struct Change {
 /// `Sync`.
 ///
 /// ```
-/// use i_overlay_core::{square, FillRule, Overlay, OverlayRule};
+/// use fadrinzo::{square, FillRule, Overlay, OverlayRule};
 ///
 /// let mut overlay = Overlay::with_contours(&[square(0, 4)], &[square(2, 6)])?;
 /// let worker = std::thread::spawn(move || overlay.overlay(OverlayRule::Union, FillRule::NonZero));
 /// assert_eq!(worker.join().unwrap()?[0].len(), 8);
-/// # Ok::<(), i_overlay_core::Error>(())
+/// # Ok::<(), fadrinzo::Error>(())
 /// ```
 pub struct Overlay {
     pub(crate) engine: ffi::Engine,
@@ -57,10 +58,10 @@ impl Overlay {
     /// An overlay of no contours, which snaps in the first 256 passes of a split.
     ///
     /// ```
-    /// use i_overlay_core::Overlay;
+    /// use fadrinzo::Overlay;
     ///
-    /// assert!(Overlay::new()?.segments().is_empty());
-    /// # Ok::<(), i_overlay_core::Error>(())
+    /// assert!(Overlay::new()?.segments()?.is_empty());
+    /// # Ok::<(), fadrinzo::Error>(())
     /// ```
     pub fn new() -> Result<Overlay, Error> {
         Overlay::with_snap_limit(256)
@@ -70,12 +71,12 @@ impl Overlay {
     /// `Rounding::Pairwise` snap in 256, whatever this limit is.
     ///
     /// ```
-    /// use i_overlay_core::{square, Overlay, ShapeType, Solver};
+    /// use fadrinzo::{square, Overlay, ShapeType, Solver};
     ///
     /// let mut segments = Vec::new();
-    /// ShapeType::Subject.push_contour(&square(0, 4), &mut segments);
+    /// ShapeType::Subject.push_contour(&square(0, 4), &mut segments)?;
     /// assert!(!Overlay::with_snap_limit(8)?.split(&segments, Solver::AUTO)?.has_changed);
-    /// # Ok::<(), i_overlay_core::Error>(())
+    /// # Ok::<(), fadrinzo::Error>(())
     /// ```
     pub fn with_snap_limit(snap_limit: u32) -> Result<Overlay, Error> {
         Ok(Overlay {
@@ -101,16 +102,16 @@ impl Overlay {
     /// are those that the engine of that call keeps.
     ///
     /// ```
-    /// use i_overlay_core::{square, Engine, FillRule, Overlay, OverlayRule, ShapeType};
+    /// use fadrinzo::{square, Engine, FillRule, Overlay, OverlayRule, ShapeType};
     ///
     /// let mut segments = Vec::new();
-    /// ShapeType::Subject.push_contour(&square(0, 16_383), &mut segments);
+    /// ShapeType::Subject.push_contour(&square(0, 16_383), &mut segments)?;
     /// let mut overlay = Overlay::new()?.with_engine(Engine::I16);
     /// assert_eq!(overlay.build_graph(&segments, OverlayRule::Subject, FillRule::NonZero)?.links().len(), 4);
     /// segments[1].b.x += 1;
     /// let refused = overlay.build_graph(&segments, OverlayRule::Subject, FillRule::NonZero).unwrap_err();
     /// assert_eq!(refused.to_string(), "segment 1: x is 16384, the greatest is 16383");
-    /// # Ok::<(), i_overlay_core::Error>(())
+    /// # Ok::<(), fadrinzo::Error>(())
     /// ```
     pub fn with_engine(mut self, engine: Engine) -> Overlay {
         self.width = engine;
@@ -121,7 +122,7 @@ impl Overlay {
     /// pair by pair, whatever it is.
     ///
     /// ```
-    /// use i_overlay_core::{FillRule, IntPoint, Overlay, OverlayRule, Rounding};
+    /// use fadrinzo::{FillRule, IntPoint, Overlay, OverlayRule, Rounding};
     ///
     /// // two triangles whose edges cross at (2.5, 2.5)
     /// let [left, right] = [[(0, 0), (5, 5), (0, 5)], [(0, 5), (5, 0), (5, 5)]]
@@ -132,7 +133,7 @@ impl Overlay {
     /// let mut overlay = overlay.with_rounding(Rounding::Pairwise);
     /// overlay.overlay(OverlayRule::Union, FillRule::NonZero)?;
     /// assert_eq!((overlay.passes(), overlay.reach()), (2, 4));
-    /// # Ok::<(), i_overlay_core::Error>(())
+    /// # Ok::<(), fadrinzo::Error>(())
     /// ```
     pub fn with_rounding(mut self, rounding: Rounding) -> Overlay {
         self.rounding = rounding;
@@ -148,7 +149,7 @@ impl Overlay {
     /// [`Overlay::add_polygon`] turns rings so.
     ///
     /// ```
-    /// use i_overlay_core::{square, FillRule, Overlay, OverlayRule};
+    /// use fadrinzo::{square, FillRule, Overlay, OverlayRule};
     ///
     /// let [outer, inner] = [square(0, 9), square(3, 6)];
     /// let mut overlay = Overlay::with_contours(&[outer, inner], &[])?;
@@ -157,7 +158,7 @@ impl Overlay {
     /// hole.reverse();
     /// let mut overlay = Overlay::with_contours(&[outer, hole], &[])?;
     /// assert_eq!(overlay.overlay(OverlayRule::Subject, FillRule::NonZero)?.len(), 2);
-    /// # Ok::<(), i_overlay_core::Error>(())
+    /// # Ok::<(), fadrinzo::Error>(())
     /// ```
     pub fn with_contours<C: AsRef<[IntPoint]>>(subject: &[C], clip: &[C]) -> Result<Overlay, Error> {
         let mut overlay = Overlay::new()?;
@@ -172,14 +173,14 @@ impl Overlay {
     /// Copies a contour behind the others of its shape. Where it is refused nothing is added.
     ///
     /// ```
-    /// use i_overlay_core::{square, FillRule, Overlay, OverlayRule, ShapeType};
+    /// use fadrinzo::{square, FillRule, Overlay, OverlayRule, ShapeType};
     ///
     /// let mut overlay = Overlay::new()?;
     /// overlay.add_contour(&square(0, 9), ShapeType::Subject)?;
     /// overlay.add_contour(&square(3, 6)[..3], ShapeType::Clip)?;
     /// let ring = overlay.overlay(OverlayRule::Difference, FillRule::NonZero)?;
     /// assert_eq!(ring.len(), 2);
-    /// # Ok::<(), i_overlay_core::Error>(())
+    /// # Ok::<(), fadrinzo::Error>(())
     /// ```
     pub fn add_contour<C: AsRef<[IntPoint]> + ?Sized>(
         &mut self,
@@ -207,7 +208,7 @@ impl Overlay {
     /// is added. Where memory is refused the rings before it are added.
     ///
     /// ```
-    /// use i_overlay_core::{doubled_area_of_shape, square, FillRule, Overlay, OverlayRule, ShapeType};
+    /// use fadrinzo::{doubled_area_of_shape, square, FillRule, Overlay, OverlayRule, ShapeType};
     ///
     /// // both rings run counterclockwise, and end where they begin
     /// let closed = |low, high| [square(low, high).as_slice(), &square(low, high)[..1]].concat();
@@ -217,7 +218,7 @@ impl Overlay {
     /// let shapes = overlay.overlay_shapes(OverlayRule::Subject, FillRule::NonZero)?;
     /// let areas: Vec<i128> = shapes.iter().map(|shape| doubled_area_of_shape(shape) / 2).collect();
     /// assert_eq!(areas, [81 - 9, 4]);
-    /// # Ok::<(), i_overlay_core::Error>(())
+    /// # Ok::<(), fadrinzo::Error>(())
     /// ```
     pub fn add_polygon<C: AsRef<[IntPoint]>>(
         &mut self,
@@ -233,7 +234,7 @@ impl Overlay {
             }
         }
         for (index, ring) in rings().enumerate() {
-            self.add_contour(&directed_ring(ring, index == 0), shape_type)?;
+            self.add_contour(&directed_ring(ring, index == 0)?, shape_type)?;
         }
         Ok(())
     }
@@ -245,13 +246,13 @@ impl Overlay {
     /// crossings under `Rounding::Pairwise`. The contours that were added stay.
     ///
     /// ```
-    /// use i_overlay_core::{square, FillRule, Overlay, OverlayRule};
+    /// use fadrinzo::{square, FillRule, Overlay, OverlayRule};
     ///
     /// let mut overlay = Overlay::with_contours(&[square(0, 4)], &[square(2, 6)])?;
     /// let union = overlay.overlay(OverlayRule::Union, FillRule::NonZero)?;
     /// assert_eq!((union.len(), union[0].len()), (1, 8));
     /// assert_eq!(overlay.overlay(OverlayRule::Subject, FillRule::NonZero)?[0].len(), 6);
-    /// # Ok::<(), i_overlay_core::Error>(())
+    /// # Ok::<(), fadrinzo::Error>(())
     /// ```
     pub fn overlay(&mut self, overlay_rule: OverlayRule, fill_rule: FillRule) -> Result<Vec<IntContour>, Error> {
         self.overlay_with_solver(overlay_rule, fill_rule, Solver::AUTO)
@@ -260,12 +261,12 @@ impl Overlay {
     /// The contours that `overlay` returns, by a solver. The solver's strategy does not change them.
     ///
     /// ```
-    /// use i_overlay_core::{square, FillRule, Overlay, OverlayRule, Solver};
+    /// use fadrinzo::{square, FillRule, Overlay, OverlayRule, Solver};
     ///
     /// let mut overlay = Overlay::with_contours(&[square(0, 4)], &[square(2, 6)])?;
     /// let found = overlay.overlay_with_solver(OverlayRule::Xor, FillRule::EvenOdd, Solver::LIST)?;
     /// assert_eq!(found, overlay.overlay(OverlayRule::Xor, FillRule::EvenOdd)?);
-    /// # Ok::<(), i_overlay_core::Error>(())
+    /// # Ok::<(), fadrinzo::Error>(())
     /// ```
     pub fn overlay_with_solver(
         &mut self,
@@ -275,31 +276,31 @@ impl Overlay {
     ) -> Result<Vec<IntContour>, Error> {
         let status = self.engine.polygons(&self.settings(solver, fill_rule), overlay_rule.code());
         self.keep_report(status)?;
-        Ok(self.engine.contours())
+        Ok(self.engine.contours()?)
     }
 
     /// The overlays of the contours that were added by several rules, each as `overlay` returns it, in the order of the
     /// rules. The contours are split and swept once.
     ///
     /// ```
-    /// use i_overlay_core::{square, FillRule, Overlay, OverlayRule};
+    /// use fadrinzo::{square, FillRule, Overlay, OverlayRule};
     ///
     /// let mut overlay = Overlay::with_contours(&[square(0, 4)], &[square(2, 6)])?;
     /// let rules = [OverlayRule::Union, OverlayRule::Intersect];
     /// let found = overlay.overlay_by_rules(&rules, FillRule::NonZero)?;
     /// assert_eq!(found.iter().map(|contours| contours[0].len()).collect::<Vec<_>>(), [8, 4]);
     /// assert_eq!(found[1], overlay.overlay(OverlayRule::Intersect, FillRule::NonZero)?);
-    /// # Ok::<(), i_overlay_core::Error>(())
+    /// # Ok::<(), fadrinzo::Error>(())
     /// ```
     pub fn overlay_by_rules(
         &mut self,
         overlay_rules: &[OverlayRule],
         fill_rule: FillRule,
     ) -> Result<Vec<Vec<IntContour>>, Error> {
-        let codes: Vec<u8> = overlay_rules.iter().map(|rule| rule.code()).collect();
+        let codes = collect(overlay_rules.iter().map(|rule| rule.code()))?;
         let status = self.engine.polygons_by_rules(&self.settings(Solver::AUTO, fill_rule), &codes);
         self.keep_report(status)?;
-        Ok(self.engine.shapes())
+        Ok(self.engine.shapes()?)
     }
 
     /// Where a point lies with respect to the contours of a shape that were added, exactly: on the boundary if it lies on
@@ -308,7 +309,7 @@ impl Overlay {
     /// A step along which both sides are inside is a step too. A point with a coordinate out of range lies outside.
     ///
     /// ```
-    /// use i_overlay_core::{square, FillRule, IntPoint, Overlay, PointLocation, ShapeType};
+    /// use fadrinzo::{square, FillRule, IntPoint, Overlay, PointLocation, ShapeType};
     ///
     /// let mut overlay = Overlay::with_contours(&[square(0, 4)], &[])?;
     /// let mut locate = |x, y| overlay.locate_point(ShapeType::Subject, FillRule::NonZero, IntPoint::new(x, y));
@@ -316,7 +317,7 @@ impl Overlay {
     /// assert_eq!(locate(4, 2), PointLocation::OnBoundary);
     /// assert_eq!(locate(5, 2), PointLocation::Outside);
     /// assert_eq!(locate(i32::MAX, 2), PointLocation::Outside);
-    /// # Ok::<(), i_overlay_core::Error>(())
+    /// # Ok::<(), fadrinzo::Error>(())
     /// ```
     pub fn locate_point(&mut self, shape_type: ShapeType, fill_rule: FillRule, point: IntPoint) -> PointLocation {
         match self.engine.locate(point, shape_type as u8, fill_rule as u8) {
@@ -336,14 +337,14 @@ impl Overlay {
     /// touch in points may be in one shape, and the first contour may be a hole that has the least point of the shape too.
     ///
     /// ```
-    /// use i_overlay_core::{square, FillRule, Overlay, OverlayRule, ShapeType};
+    /// use fadrinzo::{square, FillRule, Overlay, OverlayRule, ShapeType};
     ///
     /// let mut overlay = Overlay::with_contours(&[square(0, 9)], &[square(3, 6)])?;
     /// overlay.add_contour(&square(20, 22), ShapeType::Subject)?;
     /// let shapes = overlay.overlay_shapes(OverlayRule::Difference, FillRule::NonZero)?;
     /// assert_eq!(shapes.iter().map(Vec::len).collect::<Vec<_>>(), [2, 1]);
     /// assert_eq!(shapes[1][0].len(), 4);
-    /// # Ok::<(), i_overlay_core::Error>(())
+    /// # Ok::<(), fadrinzo::Error>(())
     /// ```
     pub fn overlay_shapes(&mut self, overlay_rule: OverlayRule, fill_rule: FillRule) -> Result<Vec<IntShape>, Error> {
         self.overlay_shapes_with_solver(overlay_rule, fill_rule, Solver::AUTO)
@@ -352,12 +353,12 @@ impl Overlay {
     /// The shapes that `overlay_shapes` returns, by a solver. The solver's strategy does not change them.
     ///
     /// ```
-    /// use i_overlay_core::{square, FillRule, Overlay, OverlayRule, Solver};
+    /// use fadrinzo::{square, FillRule, Overlay, OverlayRule, Solver};
     ///
     /// let mut overlay = Overlay::with_contours(&[square(0, 4)], &[square(2, 6)])?;
     /// let found = overlay.overlay_shapes_with_solver(OverlayRule::Xor, FillRule::EvenOdd, Solver::LIST)?;
     /// assert_eq!(found, overlay.overlay_shapes(OverlayRule::Xor, FillRule::EvenOdd)?);
-    /// # Ok::<(), i_overlay_core::Error>(())
+    /// # Ok::<(), fadrinzo::Error>(())
     /// ```
     pub fn overlay_shapes_with_solver(
         &mut self,
@@ -367,19 +368,19 @@ impl Overlay {
     ) -> Result<Vec<IntShape>, Error> {
         let status = self.engine.shapes_of_polygons(&self.settings(solver, fill_rule), overlay_rule.code());
         self.keep_report(status)?;
-        Ok(self.engine.shapes())
+        Ok(self.engine.shapes()?)
     }
 
     /// How many passes the last overlay of contours made that was not refused, in shapes or not; 0 at first.
     ///
     /// ```
-    /// use i_overlay_core::{square, FillRule, Overlay, OverlayRule};
+    /// use fadrinzo::{square, FillRule, Overlay, OverlayRule};
     ///
     /// let mut overlay = Overlay::with_contours(&[square(0, 4)], &[square(2, 6)])?;
     /// assert_eq!(overlay.passes(), 0);
     /// overlay.overlay(OverlayRule::Union, FillRule::NonZero)?;
     /// assert_eq!(overlay.passes(), 1);
-    /// # Ok::<(), i_overlay_core::Error>(())
+    /// # Ok::<(), fadrinzo::Error>(())
     /// ```
     pub fn passes(&self) -> u128 {
         self.passes
@@ -393,7 +394,7 @@ impl Overlay {
     /// holds, and not at all elsewhere. It is 0 where no two of these edges cross at a point without whole coordinates.
     ///
     /// ```
-    /// use i_overlay_core::{square, FillRule, IntPoint, Overlay, OverlayRule, ShapeType};
+    /// use fadrinzo::{square, FillRule, IntPoint, Overlay, OverlayRule, ShapeType};
     ///
     /// let mut overlay = Overlay::with_contours(&[square(0, 4)], &[square(2, 6)])?;
     /// overlay.overlay_shapes(OverlayRule::Union, FillRule::NonZero)?;
@@ -403,7 +404,7 @@ impl Overlay {
     /// overlay.add_contour(&corners, ShapeType::Clip)?;
     /// overlay.overlay_shapes(OverlayRule::Union, FillRule::NonZero)?;
     /// assert!(overlay.reach() > 0);
-    /// # Ok::<(), i_overlay_core::Error>(())
+    /// # Ok::<(), fadrinzo::Error>(())
     /// ```
     pub fn reach(&self) -> u128 {
         self.reach
@@ -412,12 +413,12 @@ impl Overlay {
     /// Drops the contours that were added. Buffers stay.
     ///
     /// ```
-    /// use i_overlay_core::{square, FillRule, Overlay, OverlayRule};
+    /// use fadrinzo::{square, FillRule, Overlay, OverlayRule};
     ///
     /// let mut overlay = Overlay::with_contours(&[square(0, 4)], &[])?;
     /// overlay.clear();
     /// assert!(overlay.overlay(OverlayRule::Union, FillRule::NonZero)?.is_empty());
-    /// # Ok::<(), i_overlay_core::Error>(())
+    /// # Ok::<(), fadrinzo::Error>(())
     /// ```
     pub fn clear(&mut self) {
         self.engine.clear();
@@ -427,15 +428,15 @@ impl Overlay {
     /// The graph of the segments that a rule keeps, by the solver `AUTO`.
     ///
     /// ```
-    /// use i_overlay_core::{square, FillRule, Overlay, OverlayRule, ShapeType};
+    /// use fadrinzo::{square, FillRule, Overlay, OverlayRule, ShapeType};
     ///
     /// let mut segments = Vec::new();
-    /// ShapeType::Subject.push_contour(&square(0, 4), &mut segments);
-    /// ShapeType::Clip.push_contour(&square(2, 6), &mut segments);
+    /// ShapeType::Subject.push_contour(&square(0, 4), &mut segments)?;
+    /// ShapeType::Clip.push_contour(&square(2, 6), &mut segments)?;
     /// let mut overlay = Overlay::new()?;
     /// let graph = overlay.build_graph(&segments, OverlayRule::Intersect, FillRule::NonZero)?;
     /// assert_eq!((graph.links().len(), graph.node_count()), (4, 4));
-    /// # Ok::<(), i_overlay_core::Error>(())
+    /// # Ok::<(), fadrinzo::Error>(())
     /// ```
     pub fn build_graph(
         &mut self,
@@ -449,15 +450,15 @@ impl Overlay {
     /// The graph of the segments that a rule keeps. The solver's strategy does not change it.
     ///
     /// ```
-    /// use i_overlay_core::{square, FillRule, Overlay, OverlayRule, ShapeType, Solver};
+    /// use fadrinzo::{square, FillRule, Overlay, OverlayRule, ShapeType, Solver};
     ///
     /// let mut segments = Vec::new();
-    /// ShapeType::Subject.push_contour(&square(0, 4), &mut segments);
+    /// ShapeType::Subject.push_contour(&square(0, 4), &mut segments)?;
     /// let mut overlay = Overlay::new()?;
     /// let (rule, fill) = (OverlayRule::Subject, FillRule::NonZero);
     /// let graph = overlay.build_graph_with_solver(&segments, rule, fill, Solver::TREE)?;
     /// assert_eq!(graph.links().len(), 4);
-    /// # Ok::<(), i_overlay_core::Error>(())
+    /// # Ok::<(), fadrinzo::Error>(())
     /// ```
     pub fn build_graph_with_solver(
         &mut self,
@@ -467,7 +468,7 @@ impl Overlay {
         solver: Solver,
     ) -> Result<OverlayGraph<'_>, Error> {
         self.run(segments, overlay_rule, fill_rule, solver, false)?;
-        Ok(self.graph())
+        self.graph()
     }
 
     /// The graph of the segments that a rule keeps, with a number for each link: that of the given segment from which it
@@ -477,11 +478,11 @@ impl Overlay {
     /// the passes move crossings.
     ///
     /// ```
-    /// use i_overlay_core::{square, DataSegment, FillRule, Overlay, OverlayRule, ShapeType, Solver};
+    /// use fadrinzo::{square, DataSegment, FillRule, Overlay, OverlayRule, ShapeType, Solver};
     ///
     /// let mut sides = Vec::new();
-    /// ShapeType::Subject.push_contour(&square(0, 4), &mut sides);
-    /// ShapeType::Clip.push_contour(&square(2, 6), &mut sides);
+    /// ShapeType::Subject.push_contour(&square(0, 4), &mut sides)?;
+    /// ShapeType::Clip.push_contour(&square(2, 6), &mut sides)?;
     /// // from 0 to 3 the sides of the subject, from the left one counterclockwise; from 4 to 7 those of the clip
     /// let numbered: Vec<DataSegment> = sides.iter().zip(0..).map(|(&segment, data)| DataSegment { segment, data }).collect();
     /// let mut overlay = Overlay::new()?;
@@ -489,7 +490,7 @@ impl Overlay {
     /// let graph = overlay.build_graph_with_data(&numbered, rule, fill, Solver::AUTO)?;
     /// // the left and the lower side of the clip, and the upper and the right one of the subject
     /// assert_eq!(graph.data(), [4, 5, 3, 2]);
-    /// # Ok::<(), i_overlay_core::Error>(())
+    /// # Ok::<(), fadrinzo::Error>(())
     /// ```
     pub fn build_graph_with_data(
         &mut self,
@@ -500,8 +501,8 @@ impl Overlay {
     ) -> Result<OverlayGraph<'_>, Error> {
         let status = self.engine.overlay_with_data(segments, &self.settings(solver, fill_rule), overlay_rule.code());
         outcome(status, segments, |segment| fault_of_data(segment, self.width))?;
-        self.copy_graph();
-        self.engine.copy_link_data(&mut self.link_data);
+        self.copy_graph()?;
+        self.engine.copy_link_data(&mut self.link_data)?;
         Ok(self.kept_graph())
     }
 
@@ -510,14 +511,14 @@ impl Overlay {
     /// do not balance.
     ///
     /// ```
-    /// use i_overlay_core::{square, FillRule, Overlay, OverlayRule, ShapeType, Solver};
+    /// use fadrinzo::{square, FillRule, Overlay, OverlayRule, ShapeType, Solver};
     ///
     /// let mut segments = Vec::new();
-    /// ShapeType::Subject.push_contour(&square(0, 4), &mut segments);
+    /// ShapeType::Subject.push_contour(&square(0, 4), &mut segments)?;
     /// let (rule, fill) = (OverlayRule::Subject, FillRule::NonZero);
     /// let contours = Overlay::new()?.build_contours(&segments, rule, fill, Solver::AUTO)?;
     /// assert_eq!(contours.map(|found| found.len()), Some(1));
-    /// # Ok::<(), i_overlay_core::Error>(())
+    /// # Ok::<(), fadrinzo::Error>(())
     /// ```
     pub fn build_contours(
         &mut self,
@@ -531,62 +532,62 @@ impl Overlay {
         if !has_walks {
             return Ok(None);
         }
-        self.copy_graph();
-        self.engine.copy_walks(&mut self.walk_starts, &mut self.walk_links);
-        sum_up(&mut self.walk_starts);
+        self.copy_graph()?;
+        self.engine.copy_walks(&mut self.walk_starts, &mut self.walk_links)?;
+        sum_up(&mut self.walk_starts)?;
         let walks = self.walk_starts.windows(2).map(|ends| &self.walk_links[ends[0]..ends[1]]);
-        Ok(Some(walks.map(|walk| contour(&self.links, walk)).collect()))
+        Ok(Some(collect_all(walks.map(|walk| contour(&self.links, walk)))?))
     }
 
     /// The arrangement of the last call that was given segments, or the joined segments. After a call that was refused,
     /// nothing, or the arrangement where its graph alone was refused.
     ///
     /// ```
-    /// use i_overlay_core::{square, Overlay, ShapeType, Solver};
+    /// use fadrinzo::{square, Overlay, ShapeType, Solver};
     ///
     /// let mut segments = Vec::new();
-    /// ShapeType::Subject.push_contour(&square(0, 4), &mut segments);
-    /// ShapeType::Clip.push_contour(&square(2, 6), &mut segments);
+    /// ShapeType::Subject.push_contour(&square(0, 4), &mut segments)?;
+    /// ShapeType::Clip.push_contour(&square(2, 6), &mut segments)?;
     /// let mut overlay = Overlay::new()?;
     /// overlay.split(&segments, Solver::AUTO)?;
-    /// assert_eq!(overlay.segments().len(), 12);
-    /// # Ok::<(), i_overlay_core::Error>(())
+    /// assert_eq!(overlay.segments()?.len(), 12);
+    /// # Ok::<(), fadrinzo::Error>(())
     /// ```
-    pub fn segments(&mut self) -> &[Segment] {
-        self.engine.copy_segments(&mut self.segments);
-        &self.segments
+    pub fn segments(&mut self) -> Result<&[Segment], Error> {
+        self.engine.copy_segments(&mut self.segments)?;
+        Ok(&self.segments)
     }
 
     /// The arrangement of the last `build_clip`, of polygons and lines. After a call that was refused, nothing, or the
     /// arrangement where its graph alone was refused.
     ///
     /// ```
-    /// use i_overlay_core::{ClipRule, FillRule, IntPoint, LineSegment, Overlay, Solver};
+    /// use fadrinzo::{ClipRule, FillRule, IntPoint, LineSegment, Overlay, Solver};
     ///
     /// let line = |ax, ay, bx, by| LineSegment::line(IntPoint::new(ax, ay), IntPoint::new(bx, by));
     /// let crossed = [line(0, 0, 4, 4), line(0, 4, 4, 0)];
     /// let mut overlay = Overlay::new()?;
     /// overlay.build_clip(&crossed, ClipRule::default(), FillRule::NonZero, Solver::AUTO)?;
-    /// assert_eq!(overlay.lines().len(), 4);
-    /// # Ok::<(), i_overlay_core::Error>(())
+    /// assert_eq!(overlay.lines()?.len(), 4);
+    /// # Ok::<(), fadrinzo::Error>(())
     /// ```
-    pub fn lines(&mut self) -> &[LineSegment] {
-        self.engine.copy_lines(&mut self.lines);
-        &self.lines
+    pub fn lines(&mut self) -> Result<&[LineSegment], Error> {
+        self.engine.copy_lines(&mut self.lines)?;
+        Ok(&self.lines)
     }
 
     /// The graph of all of the arrangement, with its fills.
     ///
     /// ```
-    /// use i_overlay_core::{square, FillRule, Overlay, ShapeType, Solver};
+    /// use fadrinzo::{square, FillRule, Overlay, ShapeType, Solver};
     ///
     /// let mut segments = Vec::new();
-    /// ShapeType::Subject.push_contour(&square(0, 4), &mut segments);
-    /// ShapeType::Clip.push_contour(&square(2, 6), &mut segments);
+    /// ShapeType::Subject.push_contour(&square(0, 4), &mut segments)?;
+    /// ShapeType::Clip.push_contour(&square(2, 6), &mut segments)?;
     /// let mut overlay = Overlay::new()?;
     /// let all = overlay.build_all(&segments, FillRule::NonZero, Solver::AUTO)?;
     /// assert_eq!((all.links().len(), all.node_count()), (12, 10));
-    /// # Ok::<(), i_overlay_core::Error>(())
+    /// # Ok::<(), fadrinzo::Error>(())
     /// ```
     pub fn build_all(
         &mut self,
@@ -597,7 +598,7 @@ impl Overlay {
         let settings = self.settings(solver, fill_rule);
         let status = self.engine.all(segments, &settings, &mut self.links);
         outcome(status, segments, |segment| fault_of(segment, self.width))?;
-        self.copy_nodes();
+        self.copy_nodes()?;
         self.link_data.clear();
         Ok(self.kept_graph())
     }
@@ -605,14 +606,14 @@ impl Overlay {
     /// Splits the segments, with no graph: `segments` is the arrangement then.
     ///
     /// ```
-    /// use i_overlay_core::{square, Overlay, ShapeType, Solver};
+    /// use fadrinzo::{square, Overlay, ShapeType, Solver};
     ///
     /// let mut segments = Vec::new();
-    /// ShapeType::Subject.push_contour(&square(0, 4), &mut segments);
-    /// ShapeType::Clip.push_contour(&square(2, 6), &mut segments);
+    /// ShapeType::Subject.push_contour(&square(0, 4), &mut segments)?;
+    /// ShapeType::Clip.push_contour(&square(2, 6), &mut segments)?;
     /// let change = Overlay::new()?.split(&segments, Solver::AUTO)?;
     /// assert_eq!((change.has_changed, change.passes), (true, 1));
-    /// # Ok::<(), i_overlay_core::Error>(())
+    /// # Ok::<(), fadrinzo::Error>(())
     /// ```
     pub fn split(&mut self, segments: &[Segment], solver: Solver) -> Result<Change, Error> {
         let status = self.engine.split(segments, &self.settings(solver, FillRule::NonZero));
@@ -623,15 +624,15 @@ impl Overlay {
     /// Joins the segments on each pair of ends: `segments` has them then.
     ///
     /// ```
-    /// use i_overlay_core::{square, Overlay, ShapeType};
+    /// use fadrinzo::{square, Overlay, ShapeType};
     ///
     /// let mut segments = Vec::new();
-    /// ShapeType::Subject.push_contour(&square(0, 4), &mut segments);
-    /// ShapeType::Clip.push_contour(&square(0, 4), &mut segments);
+    /// ShapeType::Subject.push_contour(&square(0, 4), &mut segments)?;
+    /// ShapeType::Clip.push_contour(&square(0, 4), &mut segments)?;
     /// let mut overlay = Overlay::new()?;
     /// assert!(overlay.join(&segments)?.has_changed);
-    /// assert_eq!(overlay.segments().len(), 4);
-    /// # Ok::<(), i_overlay_core::Error>(())
+    /// assert_eq!(overlay.segments()?.len(), 4);
+    /// # Ok::<(), fadrinzo::Error>(())
     /// ```
     pub fn join(&mut self, segments: &[Segment]) -> Result<Change, Error> {
         let status = self.engine.join(segments, self.width as u8);
@@ -642,7 +643,7 @@ impl Overlay {
     /// The graph of the parts of lines that a clip rule keeps.
     ///
     /// ```
-    /// use i_overlay_core::{square, ClipRule, FillRule, IntPoint, LineSegment, Overlay, Solver};
+    /// use fadrinzo::{square, ClipRule, FillRule, IntPoint, LineSegment, Overlay, Solver};
     ///
     /// let corners = square(0, 10);
     /// let sides = (0..4).map(|index| LineSegment::side(corners[index], corners[(index + 1) % 4]));
@@ -651,7 +652,7 @@ impl Overlay {
     /// let mut overlay = Overlay::new()?;
     /// let inside = overlay.build_clip(&segments, ClipRule::default(), FillRule::NonZero, Solver::AUTO)?;
     /// assert_eq!(inside.links().len(), 1);
-    /// # Ok::<(), i_overlay_core::Error>(())
+    /// # Ok::<(), fadrinzo::Error>(())
     /// ```
     pub fn build_clip(
         &mut self,
@@ -663,7 +664,7 @@ impl Overlay {
         let ClipRule { invert, boundary_included } = clip_rule;
         let status = self.engine.clip(segments, &self.settings(solver, fill_rule), invert, boundary_included);
         outcome(status, segments, |segment| fault_of_line(segment, self.width))?;
-        Ok(self.graph())
+        self.graph()
     }
 
     /// Takes over what an overlay of contours reports, where its status says that it was done.
@@ -695,22 +696,22 @@ impl Overlay {
     }
 
     /// Copies the graph of the last run out.
-    fn copy_graph(&mut self) {
-        self.engine.copy_links(&mut self.links);
-        self.copy_nodes();
+    fn copy_graph(&mut self) -> Result<(), Error> {
+        self.engine.copy_links(&mut self.links)?;
+        self.copy_nodes()
     }
 
     /// Copies the nodes of the last run out.
-    fn copy_nodes(&mut self) {
-        self.engine.copy_nodes(&mut self.starts, &mut self.node_links);
-        sum_up(&mut self.starts);
+    fn copy_nodes(&mut self) -> Result<(), Error> {
+        self.engine.copy_nodes(&mut self.starts, &mut self.node_links)?;
+        Ok(sum_up(&mut self.starts)?)
     }
 
     /// The graph of the last run, which had no numbers.
-    fn graph(&mut self) -> OverlayGraph<'_> {
-        self.copy_graph();
+    fn graph(&mut self) -> Result<OverlayGraph<'_>, Error> {
+        self.copy_graph()?;
         self.link_data.clear();
-        self.kept_graph()
+        Ok(self.kept_graph())
     }
 
     /// The graph that was copied out.
@@ -746,38 +747,37 @@ impl fmt::Debug for Overlay {
 }
 
 /// A ring that runs counterclockwise, or clockwise, and does not repeat its first point at the end.
-fn directed_ring(ring: &[IntPoint], is_counterclockwise: bool) -> Cow<'_, [IntPoint]> {
+fn directed_ring(ring: &[IntPoint], is_counterclockwise: bool) -> Result<Cow<'_, [IntPoint]>, Fault> {
     let ring = match ring {
         [first, rest @ .., last] if first == last => &ring[..=rest.len()],
         _ => ring,
     };
     let area = doubled_area(ring);
     if area == 0 || (area > 0) == is_counterclockwise {
-        Cow::Borrowed(ring)
+        Ok(Cow::Borrowed(ring))
     } else {
-        Cow::Owned(ring.iter().rev().copied().collect())
+        collect(ring.iter().rev().copied()).map(Cow::Owned)
     }
 }
 
 /// Turns the lengths of lists that follow one another into the indexes where they begin, and where the last one ends.
-fn sum_up(lengths: &mut Vec<usize>) {
+fn sum_up(lengths: &mut Vec<usize>) -> Result<(), Fault> {
     let mut total = 0;
     for length in lengths.iter_mut() {
         total += std::mem::replace(length, total);
     }
-    lengths.push(total);
+    push(lengths, total)
 }
 
 /// The points along a walk, from the node where it begins.
-fn contour(links: &[OverlayLink], walk: &[usize]) -> Vec<IntPoint> {
+fn contour(links: &[OverlayLink], walk: &[usize]) -> Result<IntContour, Fault> {
     let first = &links[walk[0]];
     let leads_on = |id: usize| walk[1..].first().is_none_or(|&next| links[next].a.id == id || links[next].b.id == id);
     let mut at = if leads_on(first.b.id) { first.a } else { first.b };
-    let mut points = Vec::with_capacity(walk.len());
-    for &index in walk {
-        points.push(at.point);
+    collect(walk.iter().map(|&index| {
         let link = &links[index];
+        let left = at;
         at = if link.a.id == at.id { link.b } else { link.a };
-    }
-    points
+        left.point
+    }))
 }

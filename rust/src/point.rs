@@ -7,7 +7,7 @@ use std::ops::RangeInclusive;
 /// It is made of a pair or an array, and into one.
 ///
 /// ```
-/// use i_overlay_core::IntPoint;
+/// use fadrinzo::IntPoint;
 ///
 /// let corners = [[0, 0], [4, 0], [4, 4]].map(IntPoint::from);
 /// assert_eq!(corners[1], IntPoint::from((4, 0)));
@@ -31,7 +31,7 @@ impl IntPoint {
     /// The point with these coordinates.
     ///
     /// ```
-    /// use i_overlay_core::IntPoint;
+    /// use fadrinzo::IntPoint;
     ///
     /// assert!(IntPoint::new(1, 9) < IntPoint::new(2, 0));
     /// assert_eq!(IntPoint::new(0, 0), IntPoint::ZERO);
@@ -77,7 +77,7 @@ pub const MAX_COORD: i32 = 1_073_741_823;
 /// grows less far with 16 bits.
 ///
 /// ```
-/// use i_overlay_core::Engine;
+/// use fadrinzo::Engine;
 ///
 /// assert_eq!("i16".parse(), Ok(Engine::I16));
 /// assert_eq!(Engine::default().to_string(), "i32");
@@ -96,7 +96,7 @@ impl Engine {
     /// The least and the greatest coordinate.
     ///
     /// ```
-    /// use i_overlay_core::{Engine, MAX_COORD};
+    /// use fadrinzo::{Engine, MAX_COORD};
     ///
     /// assert_eq!(Engine::I16.range(), -16_384..=16_383);
     /// assert_eq!(*Engine::I32.range().end(), MAX_COORD);
@@ -118,7 +118,7 @@ pub type IntShape = Vec<IntContour>;
 /// The corners of the square from `(low, low)` to `(high, high)`, counterclockwise.
 ///
 /// ```
-/// use i_overlay_core::{square, IntPoint};
+/// use fadrinzo::{square, IntPoint};
 ///
 /// assert_eq!(square(0, 4)[1], IntPoint::new(4, 0));
 /// ```

@@ -5,7 +5,7 @@
 /// It is written and read as the programs of the repository read it.
 ///
 /// ```
-/// use i_overlay_core::FillRule;
+/// use fadrinzo::FillRule;
 ///
 /// assert_eq!(FillRule::EvenOdd.to_string(), "evenodd");
 /// assert_eq!("nonzero".parse(), Ok(FillRule::NonZero));
@@ -29,7 +29,7 @@ pub enum FillRule {
 /// It is written and read as the programs of the repository read it.
 ///
 /// ```
-/// use i_overlay_core::{OverlayRule, RuleTable};
+/// use fadrinzo::{OverlayRule, RuleTable};
 ///
 /// assert_eq!(OverlayRule::InverseDifference.to_string(), "inverse-difference");
 /// assert_eq!("table:6".parse(), Ok(OverlayRule::Table(RuleTable::new(6).expect("a number below 16"))));
@@ -85,14 +85,14 @@ impl RuleTable {
     /// The table of these bits. `None` for a number above 15.
     ///
     /// ```
-    /// use i_overlay_core::{square, FillRule, Overlay, OverlayRule, RuleTable};
+    /// use fadrinzo::{square, FillRule, Overlay, OverlayRule, RuleTable};
     ///
     /// let mut overlay = Overlay::with_contours(&[square(0, 4)], &[square(2, 6)])?;
     /// let shared = overlay.overlay(OverlayRule::Intersect, FillRule::NonZero)?;
     /// let both = RuleTable::new(0b1000).expect("a number below 16");
     /// assert_eq!(overlay.overlay(OverlayRule::Table(both), FillRule::NonZero)?, shared);
     /// assert_eq!(RuleTable::new(16), None);
-    /// # Ok::<(), i_overlay_core::Error>(())
+    /// # Ok::<(), fadrinzo::Error>(())
     /// ```
     pub const fn new(bits: u8) -> Option<RuleTable> {
         if bits < 16 {
@@ -105,7 +105,7 @@ impl RuleTable {
     /// The bits of the table: a number from 0 to 15.
     ///
     /// ```
-    /// use i_overlay_core::RuleTable;
+    /// use fadrinzo::RuleTable;
     ///
     /// assert_eq!(RuleTable::new(6).map(RuleTable::bits), Some(6));
     /// ```

@@ -1,6 +1,7 @@
 //! What is given: segments with their counts, and lines.
 
-use crate::IntPoint;
+use crate::memory::reserve;
+use crate::{Error, IntPoint};
 
 /// How often a segment winds for the subject and for the clip.
 #[repr(C)]
@@ -24,7 +25,7 @@ impl ShapeCountBoolean {
 /// It is written in a word, and read by that or by the letter with which a line of a program begins.
 ///
 /// ```
-/// use i_overlay_core::ShapeType;
+/// use fadrinzo::ShapeType;
 ///
 /// assert_eq!(ShapeType::Clip.to_string(), "clip");
 /// assert_eq!(["subject", "S"].map(str::parse), [Ok(ShapeType::Subject), Ok(ShapeType::Subject)]);
@@ -42,7 +43,7 @@ impl ShapeType {
     /// The count of one contour, run forward.
     ///
     /// ```
-    /// use i_overlay_core::{ShapeCountBoolean, ShapeType};
+    /// use fadrinzo::{ShapeCountBoolean, ShapeType};
     ///
     /// assert_eq!(ShapeType::Subject.direct_count(), ShapeCountBoolean::SUBJ_DIRECT);
     /// ```
@@ -54,24 +55,27 @@ impl ShapeType {
     }
 
     /// Adds the steps of a closed contour, from each point to the next and from the last to the first. Steps from a
-    /// point to itself are left out.
+    /// point to itself are left out. Where memory is refused nothing is added.
     ///
     /// ```
-    /// use i_overlay_core::{square, ShapeType};
+    /// use fadrinzo::{square, ShapeType};
     ///
     /// let mut segments = Vec::new();
-    /// ShapeType::Clip.push_contour(&square(0, 4), &mut segments);
+    /// ShapeType::Clip.push_contour(&square(0, 4), &mut segments)?;
     /// assert_eq!(segments.len(), 4);
     /// assert!(segments.iter().all(|side| side.count == ShapeType::Clip.direct_count()));
+    /// # Ok::<(), fadrinzo::Error>(())
     /// ```
-    pub fn push_contour(self, contour: &[IntPoint], segments: &mut Vec<Segment>) {
-        let Some(mut a) = contour.last().copied() else { return };
+    pub fn push_contour(self, contour: &[IntPoint], segments: &mut Vec<Segment>) -> Result<(), Error> {
+        let Some(mut a) = contour.last().copied() else { return Ok(()) };
+        reserve(segments, contour.len())?;
         for &b in contour {
             if a != b {
                 segments.push(Segment { a, b, count: self.direct_count() });
             }
             a = b;
         }
+        Ok(())
     }
 }
 
@@ -93,12 +97,13 @@ pub struct Segment {
 /// a split, the first one's number stays.
 ///
 /// ```
-/// use i_overlay_core::{square, DataSegment, ShapeType};
+/// use fadrinzo::{square, DataSegment, ShapeType};
 ///
 /// let mut sides = Vec::new();
-/// ShapeType::Subject.push_contour(&square(0, 4), &mut sides);
+/// ShapeType::Subject.push_contour(&square(0, 4), &mut sides)?;
 /// let numbered: Vec<DataSegment> = sides.iter().zip(0..).map(|(&segment, data)| DataSegment { segment, data }).collect();
 /// assert_eq!(numbered[3].data, 3);
+/// # Ok::<(), fadrinzo::Error>(())
 /// ```
 #[repr(C)]
 #[derive(Clone, Copy, Debug, Default, PartialEq, Eq, Hash)]
@@ -127,7 +132,7 @@ impl LineSegment {
     /// A side of a polygon.
     ///
     /// ```
-    /// use i_overlay_core::{IntPoint, LineSegment};
+    /// use fadrinzo::{IntPoint, LineSegment};
     ///
     /// let side = LineSegment::side(IntPoint::ZERO, IntPoint::new(4, 0));
     /// assert_eq!((side.subj, side.mask), (1, 0));
@@ -139,7 +144,7 @@ impl LineSegment {
     /// A step of a line.
     ///
     /// ```
-    /// use i_overlay_core::{IntPoint, LineSegment};
+    /// use fadrinzo::{IntPoint, LineSegment};
     ///
     /// let step = LineSegment::line(IntPoint::ZERO, IntPoint::new(4, 0));
     /// assert_eq!((step.subj, step.mask), (0, 2));

@@ -5,7 +5,7 @@
 /// It is written and read as the programs of the repository read it.
 ///
 /// ```
-/// use i_overlay_core::Strategy;
+/// use fadrinzo::Strategy;
 ///
 /// assert_eq!(Strategy::Frag.to_string(), "frag");
 /// assert_eq!("auto".parse(), Ok(Strategy::default()));
@@ -27,10 +27,10 @@ pub enum Strategy {
 /// How far a crossing may be moved to an end: in pass k within a squared distance of
 /// `2^(start + (k-1) * progression)`. The default is [`Precision::HIGH`].
 ///
-/// It is written and read as the programs of the repository read it.
+/// It is written and read as the programs of the repository read it, which take at most 9 digits of a number.
 ///
 /// ```
-/// use i_overlay_core::Precision;
+/// use fadrinzo::Precision;
 ///
 /// assert_eq!(Precision::default().to_string(), "high");
 /// assert_eq!("3,1".parse(), Ok(Precision { start: 3, progression: 1 }));
@@ -61,7 +61,7 @@ impl Precision {
 /// Where an overlay of contours puts crossings of edges that have no whole coordinates.
 ///
 /// ```
-/// use i_overlay_core::Rounding;
+/// use fadrinzo::Rounding;
 ///
 /// assert_eq!("pairwise".parse(), Ok(Rounding::Pairwise));
 /// assert_eq!(Rounding::default().to_string(), "hot-pixels");
@@ -89,7 +89,7 @@ impl Default for Precision {
 /// A strategy and a precision.
 ///
 /// ```
-/// use i_overlay_core::{Precision, Solver, Strategy};
+/// use fadrinzo::{Precision, Solver, Strategy};
 ///
 /// assert_eq!(Solver::default(), Solver { strategy: Strategy::default(), precision: Precision::default() });
 /// assert_eq!(Solver::default(), Solver::AUTO);

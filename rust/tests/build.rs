@@ -1,31 +1,47 @@
-//! What the build script says of the file that it is to link.
+//! The build script takes archives and object files of the exports alone.
 
-#[allow(dead_code, reason = "the script has a main function")]
+#[allow(dead_code, reason = "its main is cargo's to run")]
 #[path = "../build.rs"]
-mod script;
+mod build;
 
-use std::fs;
+use build::{archive_of, exports};
+
+/// Bytes as a table of symbols has the names, but for one.
+fn names_but(one: usize) -> Vec<u8> {
+    let names = exports().enumerate().filter(|(index, _)| *index != one).map(|(_, name)| name);
+    names.flat_map(|name| [b"\0", name.as_bytes(), b"\0"].concat()).collect()
+}
 
 #[test]
-fn a_file_that_is_no_archive() {
-    let folder = std::env::temp_dir().join(format!("i_overlay_core_{}", std::process::id()));
-    fs::create_dir_all(&folder).unwrap();
-    let told = |name: &str, bytes: Option<&str>| {
-        let file = folder.join(name);
-        if let Some(bytes) = bytes {
-            fs::write(&file, bytes).unwrap();
+fn each_export_is_looked_for() {
+    let all: Vec<&str> = exports().collect();
+    assert!(all.len() > 25 && all.contains(&"overlay_c_new") && all.contains(&"overlay_c_shape_lengths"), "{all:?}");
+    assert!(all.iter().all(|name| name.starts_with("overlay_c_")));
+    for start in [b"!<arch>\n".as_slice(), b"\x7fELF"] {
+        assert!(archive_of(&[start, &names_but(usize::MAX)].concat()).is_ok());
+        for (index, name) in all.iter().enumerate() {
+            let refused = archive_of(&[start, &names_but(index)].concat()).unwrap_err();
+            assert_eq!(refused, format!("is of another version: it lacks {name}"));
         }
-        script::library_name(&file)
-            .map(str::to_string)
-            .map_err(|told| told.replace(&file.display().to_string(), "FILE"))
-    };
-    assert_eq!(told("libno.a", None), Err("there is no file FILE".into()));
-    for bytes in ["", "!<arch", "INPUT(libc.a)\n"] {
-        assert_eq!(told("libtext.a", Some(bytes)), Err("FILE is no archive".into()));
     }
-    for name in ["archive", "lib.so", "core.a"] {
-        assert_eq!(told(name, Some("!<arch>\n")), Err("the name of FILE is not of the form libNAME.a".into()));
+}
+
+#[test]
+fn other_files_are_refused() {
+    for bytes in [b"".as_slice(), b"!<arch>", b"a text", b"\x7fELD"] {
+        assert_eq!(archive_of(bytes), Err("is no archive and no object file".to_string()));
     }
-    assert_eq!(told("libcore.a", Some("!<arch>\n")), Ok("core".into()));
-    fs::remove_dir_all(&folder).unwrap();
+}
+
+#[test]
+fn an_object_file_is_put_into_an_archive() {
+    for more in [b"".as_slice(), b"x"] {
+        let object = [b"\x7fELF", names_but(usize::MAX).as_slice(), more].concat();
+        let archive = archive_of(&object).unwrap();
+        assert_eq!(archive.len() % 2, 0);
+        assert_eq!(&archive[..8], b"!<arch>\n");
+        assert_eq!(&archive[66..68], b"`\n");
+        assert_eq!(std::str::from_utf8(&archive[56..66]).unwrap().trim(), object.len().to_string());
+        assert_eq!(&archive[68..68 + object.len()], object);
+    }
 }

@@ -3,7 +3,7 @@
 mod common;
 
 use common::Random;
-use i_overlay_core::{
+use fadrinzo::{
     cross, square, Axis, Change, ClipRule, CollinearMask, CrossResult, CrossType, DataSegment, Engine, Error, Fault,
     FillRule, IntPoint, LineSegment, Overlay, OverlayNode, OverlayRule, Precision, RangeFault, RuleTable, Segment,
     SegmentFault, ShapeCountBoolean, ShapeType, Solver, Strategy, MAX_COORD, MIN_COORD,
@@ -24,8 +24,8 @@ const FILLS: [FillRule; 4] = [FillRule::EvenOdd, FillRule::NonZero, FillRule::Po
 
 fn two_squares() -> Vec<Segment> {
     let mut segments = Vec::new();
-    ShapeType::Subject.push_contour(&square(0, 4), &mut segments);
-    ShapeType::Clip.push_contour(&square(2, 6), &mut segments);
+    ShapeType::Subject.push_contour(&square(0, 4), &mut segments).unwrap();
+    ShapeType::Clip.push_contour(&square(2, 6), &mut segments).unwrap();
     segments
 }
 
@@ -69,7 +69,7 @@ fn links_tell_the_side_they_came_from() {
     assert_eq!(data(OverlayRule::Intersect), [4, 5, 3, 2]);
     assert_eq!(data(OverlayRule::Union), [0, 1, 3, 4, 7, 2, 5, 6]);
     assert_eq!(data(OverlayRule::Subject), [0, 1, 3, 3, 2, 2]);
-    assert_eq!(overlay.segments().len(), 12);
+    assert_eq!(overlay.segments().unwrap().len(), 12);
     let graph = overlay.build_graph_with_data(&[], OverlayRule::Union, FillRule::NonZero, Solver::AUTO).unwrap();
     assert!(graph.data().is_empty());
 }
@@ -83,10 +83,10 @@ fn numbers_change_no_graph() {
     let graph = overlay.build_graph_with_data(&sides, rule, fill, Solver::AUTO).unwrap();
     let (links, nodes) = (graph.links().to_vec(), graph.node_count());
     assert!(graph.data().iter().all(|&number| number >= u64::MAX - 7));
-    let segments = overlay.segments().to_vec();
+    let segments = overlay.segments().unwrap().to_vec();
     let plain = overlay.build_graph(&two_squares(), rule, fill).unwrap();
     assert_eq!((plain.links(), plain.node_count()), (links.as_slice(), nodes));
-    assert_eq!(overlay.segments(), segments);
+    assert_eq!(overlay.segments().unwrap(), segments);
 }
 
 /// Of two sides between the same points the first one's number stays, whichever way it runs.
@@ -98,10 +98,10 @@ fn equal_sides_have_the_number_of_the_first() {
         overlay.build_graph_with_data(sides, rule, fill, Solver::AUTO).unwrap().data().to_vec()
     };
     let (mut there, mut back) = (Vec::new(), Vec::new());
-    ShapeType::Subject.push_contour(&square(0, 4), &mut there);
+    ShapeType::Subject.push_contour(&square(0, 4), &mut there).unwrap();
     let mut corners = square(0, 4);
     corners.reverse();
-    ShapeType::Clip.push_contour(&corners, &mut back);
+    ShapeType::Clip.push_contour(&corners, &mut back).unwrap();
     let (there, back) = (numbered(&there, 10), numbered(&back, 20));
     // there: left, bottom, right, top; back: left, top, right, bottom. Links: left, bottom, top, right.
     assert_eq!(data(&[there.clone(), back.clone()].concat()), [10, 11, 13, 12]);
@@ -115,7 +115,7 @@ fn a_bad_segment_with_a_number() {
     sides[5].segment.b = sides[5].segment.a;
     let refused = overlay.build_graph_with_data(&sides, OverlayRule::Union, FillRule::NonZero, Solver::AUTO).err();
     assert_eq!(refused, Some(Error::Segment { index: 5, fault: SegmentFault::EqualEnds }));
-    assert!(overlay.segments().is_empty());
+    assert!(overlay.segments().unwrap().is_empty());
 }
 
 #[test]
@@ -134,13 +134,13 @@ fn a_line_cut_by_a_square() {
     assert_eq!(parts(false), [(0, 10)]);
     assert_eq!(parts(true), [(-5, 0), (10, 15)]);
     // the line is cut at two sides, and these at the line
-    let (lines, sides): (Vec<LineSegment>, Vec<_>) = overlay.lines().iter().partition(|part| part.mask != 0);
+    let (lines, sides): (Vec<LineSegment>, Vec<_>) = overlay.lines().unwrap().iter().partition(|part| part.mask != 0);
     assert_eq!((lines.len(), sides.len()), (3, 6));
     assert!(lines.iter().all(|part| part.subj == 0 && part.a.y == 5 && part.b.y == 5));
     segments[2].mask = 4;
     let refused = overlay.build_clip(&segments, ClipRule::default(), FillRule::NonZero, Solver::AUTO).err();
     assert_eq!(refused, Some(Error::Segment { index: 2, fault: SegmentFault::Count }));
-    assert!(overlay.lines().is_empty());
+    assert!(overlay.lines().unwrap().is_empty());
 }
 
 #[test]
@@ -208,14 +208,14 @@ fn splits_and_joins() {
     let mut overlay = Overlay::new().unwrap();
     let change = overlay.split(&two_squares(), Solver::AUTO).unwrap();
     assert_eq!(change, Change { has_changed: true, passes: 1 });
-    assert_eq!(overlay.segments().len(), 12);
-    let arrangement = overlay.segments().to_vec();
+    assert_eq!(overlay.segments().unwrap().len(), 12);
+    let arrangement = overlay.segments().unwrap().to_vec();
     assert!(!overlay.split(&arrangement, Solver::AUTO).unwrap().has_changed);
-    assert_eq!(overlay.segments(), arrangement);
+    assert_eq!(overlay.segments().unwrap(), arrangement);
     let twice = [two_squares(), two_squares()].concat();
     assert!(overlay.join(&twice).unwrap().has_changed);
-    assert_eq!(overlay.segments().len(), 8);
-    assert!(overlay.segments().iter().all(|segment| segment.count.subj.abs() + segment.count.clip.abs() == 2));
+    assert_eq!(overlay.segments().unwrap().len(), 8);
+    assert!(overlay.segments().unwrap().iter().all(|segment| segment.count.subj.abs() + segment.count.clip.abs() == 2));
     assert!(!overlay.join(&two_squares()).unwrap().has_changed);
     let all = overlay.build_all(&two_squares(), FillRule::NonZero, Solver::AUTO).unwrap();
     assert_eq!((all.links().len(), all.node_count()), (12, 10));
@@ -244,9 +244,9 @@ fn doubled_area(contour: &[IntPoint]) -> i64 {
 #[test]
 fn the_arrangement() {
     let mut overlay = Overlay::new().unwrap();
-    assert!(overlay.segments().is_empty());
+    assert!(overlay.segments().unwrap().is_empty());
     overlay.build_graph(&two_squares(), OverlayRule::Union, FillRule::NonZero).unwrap();
-    let segments = overlay.segments();
+    let segments = overlay.segments().unwrap();
     assert_eq!(segments.len(), 12);
     assert!(segments.iter().all(|segment| segment.a < segment.b));
 }
@@ -260,7 +260,7 @@ fn nothing() {
     assert_eq!(graph.node(0), None);
     let contours = overlay.build_contours(&[], OverlayRule::Xor, FillRule::EvenOdd, Solver::AUTO).unwrap();
     assert_eq!(contours, Some(Vec::new()));
-    assert!(overlay.segments().is_empty());
+    assert!(overlay.segments().unwrap().is_empty());
 }
 
 #[test]
@@ -286,7 +286,7 @@ fn bad_segments() {
         segments.insert(3, bad);
         let refused = overlay.build_graph(&segments, OverlayRule::Union, FillRule::NonZero).err();
         assert_eq!(refused, Some(Error::Segment { index: 3, fault }));
-        assert!(overlay.segments().is_empty());
+        assert!(overlay.segments().unwrap().is_empty());
         // The engine can be used again.
         assert!(overlay.build_graph(&good, OverlayRule::Union, FillRule::NonZero).is_ok());
     }
@@ -318,7 +318,7 @@ fn the_range_of_each_engine() {
     let step = |a: (i32, i32), b: (i32, i32)| Segment { a: IntPoint::new(a.0, a.1), b: IntPoint::new(b.0, b.1), count };
     let widest = step((-16_384, 16_383), (16_383, -16_384));
     assert!(!overlay.split(&[widest], Solver::AUTO).unwrap().has_changed);
-    assert_eq!(overlay.segments(), [widest]);
+    assert_eq!(overlay.segments().unwrap(), [widest]);
     let cases = [
         (step((0, 0), (16_384, 0)), range_fault(Axis::X, 16_384, 16_383)),
         (step((0, -16_385), (1, 0)), range_fault(Axis::Y, -16_385, -16_384)),
@@ -328,7 +328,7 @@ fn the_range_of_each_engine() {
         let range = |index| Err(Error::Segment { index, fault });
         let given = [widest, bad];
         assert_eq!(overlay.split(&given, Solver::AUTO), range(1));
-        assert!(overlay.segments().is_empty());
+        assert!(overlay.segments().unwrap().is_empty());
         assert_eq!(overlay.join(&given), range(1));
         assert_eq!(overlay.build_all(&given, FillRule::NonZero, Solver::AUTO).err(), range(1).err());
         let data =
@@ -354,7 +354,7 @@ fn both_engines_on_exact_input() {
         let second = narrow.build_graph_with_data(&sides, rule, fill, Solver::AUTO).unwrap();
         assert_eq!((first.links(), first.data()), (second.links(), second.data()));
         assert!(first.nodes().eq(second.nodes()));
-        assert_eq!(wide.segments(), narrow.segments());
+        assert_eq!(wide.segments().unwrap(), narrow.segments().unwrap());
         let contours = |overlay: &mut Overlay| overlay.build_contours(&two_squares(), rule, fill, Solver::AUTO);
         assert_eq!(contours(&mut wide), contours(&mut narrow));
     }
@@ -383,12 +383,12 @@ fn what_stands_after_a_refusal() {
     let stacked = [step(0), step(3)];
     let mut refused = |given: &[Segment]| {
         let graph = overlay.build_graph(given, OverlayRule::Union, FillRule::NonZero).err();
-        let kept = overlay.segments().to_vec();
+        let kept = overlay.segments().unwrap().to_vec();
         let all = overlay.build_all(given, FillRule::NonZero, Solver::AUTO).err();
-        assert_eq!((graph, all, overlay.segments()), (fault, fault, kept.as_slice()));
+        assert_eq!((graph, all, overlay.segments().unwrap()), (fault, fault, kept.as_slice()));
         let sides = numbered(given, 0);
         let data = overlay.build_graph_with_data(&sides, OverlayRule::Union, FillRule::NonZero, Solver::AUTO).err();
-        assert_eq!((data, overlay.segments()), (fault, kept.as_slice()));
+        assert_eq!((data, overlay.segments().unwrap()), (fault, kept.as_slice()));
         kept
     };
     assert_eq!(refused(&stacked), stacked);
@@ -408,12 +408,12 @@ fn nothing_stands_after_a_refused_join() {
     ];
     for (given, error) in refusals {
         overlay.join(&two_squares()).unwrap();
-        assert_eq!(overlay.segments().len(), 8);
+        assert_eq!(overlay.segments().unwrap().len(), 8);
         assert_eq!(overlay.join(&given), Err(error));
-        assert!(overlay.segments().is_empty());
+        assert!(overlay.segments().unwrap().is_empty());
     }
     overlay.join(&[step(5, i32::MAX)]).unwrap();
-    assert_eq!(overlay.segments(), [step(5, i32::MAX)]);
+    assert_eq!(overlay.segments().unwrap(), [step(5, i32::MAX)]);
 }
 
 #[test]
@@ -436,7 +436,7 @@ fn random_polygons() {
             let range = 4 + random.below(if round % 2 == 0 { 12 } else { 1000 });
             let contour: Vec<IntPoint> =
                 (0..size).map(|_| IntPoint::new(random.below(range), random.below(range))).collect();
-            shape.push_contour(&contour, &mut segments);
+            shape.push_contour(&contour, &mut segments).unwrap();
         }
         for fill in FILLS {
             for rule in RULES {

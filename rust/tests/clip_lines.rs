@@ -3,7 +3,7 @@
 mod common;
 
 use common::Random;
-use i_overlay_core::{Axis, ClipRule, Engine, Error, FillRule, IntPoint, Overlay, RangeFault, MAX_COORD};
+use fadrinzo::{Axis, ClipRule, Engine, Error, FillRule, IntPoint, Overlay, RangeFault, MAX_COORD};
 
 /// How far from each edge a place has to be, in units. Each place is in 64ths.
 const FAR: i128 = 8;
@@ -138,6 +138,137 @@ fn parts_run_along_their_line() {
         (2, line(&[[4, 10], [4, 30]])),
     ];
     assert_eq!(parts(true), outside);
+}
+
+/// The line leaves the polygons between two parts, and comes back to the point at which it left.
+#[test]
+fn a_part_ends_where_the_line_leaves() {
+    let square = [[0, 0], [10, 0], [10, 10], [0, 10]].map(IntPoint::from);
+    let line = |points: &[[i32; 2]]| points.iter().copied().map(IntPoint::from).collect::<Vec<_>>();
+    let mut overlay = Overlay::new().unwrap();
+    let mut parts = |points: &[[i32; 2]], invert| {
+        let rule = ClipRule { invert, boundary_included: false };
+        overlay.clip_lines(&[square], &[line(points)], rule, FillRule::NonZero).unwrap()
+    };
+    let around = [[5, 5], [12, 5], [12, 9], [12, 5], [2, 5]];
+    assert_eq!(parts(&around, false), [(0, line(&[[5, 5], [10, 5]])), (0, line(&[[10, 5], [2, 5]]))]);
+    assert_eq!(parts(&around, true), [(0, line(&[[10, 5], [12, 5], [12, 9], [12, 5], [10, 5]]))]);
+    let back = [[5, 5], [15, 5], [5, 5]];
+    assert_eq!(parts(&back, false), [(0, line(&[[5, 5], [10, 5]])), (0, line(&[[10, 5], [5, 5]]))]);
+    let inward = [[15, 5], [5, 5], [15, 5]];
+    assert_eq!(parts(&inward, true), [(0, line(&[[15, 5], [10, 5]])), (0, line(&[[10, 5], [15, 5]]))]);
+    // within the polygons a turn is no end
+    assert_eq!(parts(&[[5, 5], [8, 5], [5, 5]], false), [(0, line(&[[5, 5], [8, 5], [5, 5]]))]);
+}
+
+/// The parts of lines that run along the axes, of contours that do: each unit of a step is kept by how often contours wind on its
+/// two sides, and units are joined where they follow one another along the line.
+fn parts_by_units(
+    contours: &[Vec<IntPoint>],
+    lines: &[Vec<IntPoint>],
+    rule: ClipRule,
+    fill: FillRule,
+) -> Vec<(usize, Vec<IntPoint>)> {
+    let mut found: Vec<(usize, Vec<IntPoint>)> = Vec::new();
+    for (line, points) in lines.iter().enumerate() {
+        let mut is_open = false;
+        for step in points.windows(2) {
+            let (dx, dy) = ((step[1].x - step[0].x).signum(), (step[1].y - step[0].y).signum());
+            let mut at = step[0];
+            while at != step[1] {
+                let next = IntPoint::new(at.x + dx, at.y + dy);
+                let (x, y) = (i128::from(at.x + next.x) * PARTS / 2, i128::from(at.y + next.y) * PARTS / 2);
+                let (across_x, across_y) = (i128::from(dy) * PARTS / 4, i128::from(dx) * PARTS / 4);
+                let places = [(x + across_x, y + across_y), (x - across_x, y - across_y)];
+                let inside = places.map(|place| is_inside(winding(place, contours), fill));
+                let is_counted = if rule.boundary_included { inside[0] || inside[1] } else { inside[0] && inside[1] };
+                let is_kept = is_counted != rule.invert;
+                match found.last_mut() {
+                    Some((_, part)) if is_kept && is_open => part.push(next),
+                    _ if is_kept => found.push((line, vec![at, next])),
+                    _ => {}
+                }
+                (at, is_open) = (next, is_kept);
+            }
+        }
+    }
+    found
+}
+
+/// A part without the points at which it goes straight on.
+fn with_corners_alone(part: &[IntPoint]) -> Vec<IntPoint> {
+    let mut kept: Vec<IntPoint> = Vec::new();
+    for &point in part {
+        if let [.., a, b] = kept[..] {
+            let goes_on =
+                (b.x - a.x).signum() == (point.x - b.x).signum() && (b.y - a.y).signum() == (point.y - b.y).signum();
+            if goes_on {
+                kept.pop();
+            }
+        }
+        kept.push(point);
+    }
+    kept
+}
+
+/// A closed or an open walk along the axes.
+fn walk(random: &mut Random, count: i32, is_closed: bool) -> Vec<IntPoint> {
+    let mut points = vec![IntPoint::new(random.below(10), random.below(10))];
+    for index in 1..count {
+        let last = points[points.len() - 1];
+        let value = random.below(10);
+        points.push(if index % 2 == 0 { IntPoint::new(value, last.y) } else { IntPoint::new(last.x, value) });
+    }
+    if is_closed {
+        let (first, last) = (points[0], points[points.len() - 1]);
+        points.push(IntPoint::new(first.x, last.y));
+    }
+    points
+}
+
+#[test]
+fn parts_are_those_of_units() {
+    let (mut random, mut overlay, mut found_parts) = (Random(11), Overlay::new().unwrap(), 0);
+    let fills = [FillRule::EvenOdd, FillRule::NonZero, FillRule::Positive, FillRule::Negative];
+    for round in 0..20_000 {
+        let contours: Vec<_> = (0..random.below(3))
+            .map(|_| {
+                let count = 3 + random.below(5);
+                walk(&mut random, count, true)
+            })
+            .collect();
+        let lines: Vec<_> = (0..2)
+            .map(|_| {
+                let count = random.below(7);
+                walk(&mut random, count, false)
+            })
+            .collect();
+        let fill = fills[random.below(4) as usize];
+        let rule = ClipRule { invert: random.below(2) == 0, boundary_included: random.below(2) == 0 };
+        let found = overlay.clip_lines(&contours, &lines, rule, fill).unwrap();
+        let corners = |parts: &[(usize, Vec<IntPoint>)]| -> Vec<(usize, Vec<IntPoint>)> {
+            parts.iter().map(|(line, part)| (*line, with_corners_alone(part))).collect()
+        };
+        let wanted = parts_by_units(&contours, &lines, rule, fill);
+        assert_eq!(corners(&found), corners(&wanted), "round {round}: {contours:?}, {lines:?}, {rule:?}, {fill:?}");
+        found_parts += found.len();
+    }
+    assert!(found_parts > 10_000, "{found_parts}");
+}
+
+/// A step through a polygon of 100,000 sides is handed the few beside it: so 2,000 steps take no minute.
+#[test]
+fn a_track_through_many_sides() {
+    let high = |index: i32| if index % 2 == 0 { 1_000_000 } else { 900_000 };
+    let mut comb: Vec<IntPoint> = (0..100_000).map(|index| IntPoint::new(100_000 - index, high(index))).collect();
+    comb.extend([[0, -1_000_000], [100_001, -1_000_000]].map(IntPoint::from));
+    let track: Vec<IntPoint> = (0..2000).map(|index| IntPoint::new(10 + 9 * index, index % 3)).collect();
+    let mut overlay = Overlay::new().unwrap();
+    let start = std::time::Instant::now();
+    let found =
+        overlay.clip_lines(&[comb], std::slice::from_ref(&track), ClipRule::default(), FillRule::NonZero).unwrap();
+    assert_eq!(found, [(0, track)]);
+    assert!(start.elapsed().as_secs() < 20, "{:?}", start.elapsed());
 }
 
 #[test]

@@ -7,13 +7,16 @@ mod counted;
 #[allow(dead_code, reason = "the crossing of two segments has conditions, so it takes no wild records")]
 #[path = "../src/ffi.rs"]
 mod ffi;
+#[allow(dead_code, reason = "the rest of the package pushes too")]
+#[path = "../src/memory.rs"]
+mod memory;
 
 use common::Random;
 use counted::{blocks, Refusals};
-use ffi::{Engine, Settings};
-use i_overlay_core::{
-    DataSegment, IntContour, IntPoint, IntShape, LineSegment, OverlayLink, Segment, ShapeCountBoolean,
+use fadrinzo::{
+    DataSegment, Fault, IntContour, IntPoint, IntShape, LineSegment, OverlayLink, Segment, ShapeCountBoolean,
 };
+use ffi::{Engine, Settings};
 
 /// A call of an export, with all that it is given.
 #[derive(Debug)]
@@ -102,24 +105,24 @@ impl Call {
             | Call::Split { .. }
             | Call::All { .. }
             | Call::Join { .. } => {
-                engine.copy_segments(&mut left.segments);
+                engine.copy_segments(&mut left.segments).unwrap();
             }
-            Call::Clip { .. } => engine.copy_lines(&mut left.lines),
+            Call::Clip { .. } => engine.copy_lines(&mut left.lines).unwrap(),
             Call::AddContour { .. } | Call::Clear => {}
             Call::Polygons { .. } | Call::Shapes { .. } => {
-                left.contours = engine.contours();
-                left.shapes = engine.shapes();
+                left.contours = engine.contours().unwrap();
+                left.shapes = engine.shapes().unwrap();
                 let report = engine.report();
                 left.report = Some((report.passes.number(), report.reach.number()));
             }
         }
         if matches!(self, Call::Overlay { .. } | Call::OverlayWithData { .. } | Call::All { .. } | Call::Clip { .. }) {
-            engine.copy_nodes(&mut left.nodes.0, &mut left.nodes.1);
+            engine.copy_nodes(&mut left.nodes.0, &mut left.nodes.1).unwrap();
         }
         match self {
             Call::All { .. } => left.links.clone_from(links),
             Call::Overlay { .. } | Call::OverlayWithData { .. } | Call::Clip { .. } => {
-                engine.copy_links(&mut left.links)
+                engine.copy_links(&mut left.links).unwrap()
             }
             _ => {}
         }
@@ -130,11 +133,11 @@ impl Call {
             left.passes = Some(sizes.passes);
         }
         if matches!(self, Call::OverlayWithData { .. }) {
-            engine.copy_link_data(&mut left.data);
+            engine.copy_link_data(&mut left.data).unwrap();
         }
         if matches!(self, Call::Overlay { walks: true, .. }) && sizes.has_walks {
             let walks = left.walks.insert(Default::default());
-            engine.copy_walks(&mut walks.0, &mut walks.1);
+            engine.copy_walks(&mut walks.0, &mut walks.1).unwrap();
         }
         left
     }

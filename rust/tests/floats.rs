@@ -3,7 +3,7 @@
 mod common;
 
 use common::Random;
-use i_overlay_core::{Axis, FillRule, FloatError, FloatOverlay, FloatPoint, FloatPointAdapter, OverlayRule, ShapeType};
+use fadrinzo::{Axis, FillRule, FloatError, FloatOverlay, FloatPoint, FloatPointAdapter, OverlayRule, ShapeType};
 
 /// Twice the area of a contour.
 fn doubled_area(contour: &[FloatPoint]) -> f64 {
@@ -105,4 +105,98 @@ fn bad_points_are_named() {
         let refused = FloatPointAdapter::with_scale([0.0; 2], [1.0; 2], scale).unwrap_err();
         assert!(matches!(refused, FloatError::Scale { .. }), "{scale}");
     }
+}
+
+#[test]
+fn bounds_that_are_not_finite_are_refused() {
+    for (least, greatest) in
+        [([0.0, f64::INFINITY], [1.0, f64::INFINITY]), ([f64::NEG_INFINITY, 0.0], [f64::INFINITY, 1.0])]
+    {
+        assert_eq!(FloatPointAdapter::new(least, greatest), Err(FloatError::Bounds));
+        assert_eq!(FloatPointAdapter::with_scale(least, greatest, 1.0), Err(FloatError::Bounds));
+    }
+}
+
+#[test]
+fn the_greatest_coordinates_stay_finite() {
+    let most = f64::MAX;
+    let square = [[-most, -most], [most, -most], [most, most], [-most, most]];
+    let contours = FloatOverlay::with_contours(&[square], &[]).unwrap();
+    let found = { contours }.overlay(OverlayRule::Subject, FillRule::NonZero).unwrap();
+    assert_eq!(found[0].len(), 4);
+    assert!(found[0].iter().flatten().all(|value| value.is_finite() && value.abs() > 0.99 * most), "{found:?}");
+    for value in [1e300, -1e300, most, 5e-324, 0.0] {
+        let adapter = FloatPointAdapter::with_iter([[value, 1.0]]);
+        let back = adapter.to_float(adapter.to_int([value, 1.0]).unwrap());
+        assert!((back[0] - value).abs() <= value.abs() * 1e-15 + 1e-300, "{value}: {back:?}");
+    }
+}
+
+/// How many points a contour comes to more than once.
+fn repeats(contour: &[FloatPoint]) -> usize {
+    let mut bits: Vec<_> = contour.iter().map(|point| point.map(f64::to_bits)).collect();
+    bits.sort_unstable();
+    bits.windows(2).filter(|two| two[0] == two[1]).count()
+}
+
+/// In a box that is small beside its coordinates a whole unit is no less than their last bit, so points stay apart.
+#[test]
+fn points_far_from_zero_stay_apart() {
+    let mut random = Random(9);
+    let last_bit = 4e6 * f64::EPSILON / 2.0;
+    for round in 0..3000 {
+        let mut triangle = || [(); 3].map(|()| [1e6, 4e6].map(|low| low + f64::from(random.below(1000)) * 2e-9));
+        let mut overlay = FloatOverlay::with_contours(&[triangle(), triangle()], &[triangle()]).unwrap();
+        for shape in overlay.overlay_shapes(OverlayRule::Xor, FillRule::EvenOdd).unwrap() {
+            assert!(shape.iter().all(|contour| repeats(contour) == 0), "round {round}: {shape:?}");
+        }
+        assert!(overlay.reach() >= last_bit && overlay.adapter().scale() * last_bit <= 1.0);
+    }
+    let adapter = FloatPointAdapter::new([2e7, 6e6], [2e7 + 1e-7, 6e6 + 1e-7]).unwrap();
+    let mut overlay = FloatOverlay::with_adapter(adapter).unwrap();
+    overlay.add_contour(&[[2e7, 6e6], [2e7 + 1e-7, 6e6], [2e7, 6e6 + 1e-7]], ShapeType::Subject).unwrap();
+    overlay.overlay(OverlayRule::Subject, FillRule::NonZero).unwrap();
+    assert!(overlay.reach() >= 3.7e-9, "{}", overlay.reach());
+}
+
+#[test]
+fn points_outside_of_the_bounds_are_refused() {
+    let adapter = FloatPointAdapter::new([0.0; 2], [1.0; 2]).unwrap();
+    assert_eq!(adapter.to_int([2.9, -0.9]), None);
+    let mut overlay = FloatOverlay::with_adapter(adapter).unwrap();
+    let refused = overlay.add_contour(&[[0.0, 0.0], [0.5, -0.9]], ShapeType::Subject).unwrap_err();
+    assert_eq!(refused.to_string(), "contour 0 of the subject, point 1: y is -0.9, which is outside of the bounds");
+    // a point of a result can be given again, though it was rounded
+    let mut random = Random(4);
+    for _ in 0..1000 {
+        let mut point = || [random.below(1000), random.below(1000)].map(|value| f64::from(value) / 997.0 - 0.3);
+        let points = [point(), point(), point()];
+        let adapter = FloatPointAdapter::with_scale([-1.0, -1.0], [1.0, 1.0], 100.0).unwrap();
+        let narrow = FloatPointAdapter::with_iter(points);
+        for adapter in [adapter, narrow] {
+            for at in points {
+                let whole = adapter.to_int(at).unwrap();
+                assert_eq!(adapter.to_int(adapter.to_float(whole)), Some(whole));
+            }
+        }
+    }
+}
+
+#[test]
+fn the_chosen_scale_is_the_greatest_that_may_be() {
+    let adapter = FloatPointAdapter::new([0.0; 2], [3.0; 2]).unwrap();
+    assert_eq!(adapter.scale(), f64::powi(2.0, 29));
+    assert!(FloatPointAdapter::with_scale([0.0; 2], [3.0; 2], f64::powi(2.0, 29)).is_ok());
+    let refused = FloatPointAdapter::with_scale([0.0; 2], [3.0; 2], f64::powi(2.0, 30));
+    assert_eq!(refused, Err(FloatError::Scale { most: f64::powi(2.0, 29) }));
+    assert_eq!(FloatPointAdapter::new([0.5; 2], [0.500001; 2]).unwrap().scale(), f64::powi(2.0, 50));
+    assert_eq!(FloatPointAdapter::new([-500.0; 2], [500.0; 2]).unwrap().scale(), f64::powi(2.0, 21));
+    // a square of side 1e-10 keeps its corners
+    let (low, high) = (0.25, 0.25 + 1e-10);
+    let tiny = [[low, low], [high, low], [high, high], [low, high]];
+    let shapes =
+        FloatOverlay::with_contours(&[tiny], &[]).unwrap().overlay_shapes(OverlayRule::Subject, FillRule::NonZero);
+    assert_eq!(shapes.unwrap()[0][0].len(), 4);
+    // a scale that the digits of the bounds do not hold
+    assert!(matches!(FloatPointAdapter::with_scale([1e9; 2], [1e9 + 1e-3; 2], 1e9), Err(FloatError::Scale { .. })));
 }

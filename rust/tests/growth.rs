@@ -4,7 +4,7 @@
 
 mod validity;
 
-use i_overlay_core::{FillRule, IntContour, IntPoint, Overlay, OverlayRule, Rounding, Solver};
+use fadrinzo::{FillRule, IntContour, IntPoint, Overlay, OverlayRule, Rounding, Solver};
 use std::collections::BTreeSet;
 use validity::wrongs;
 

@@ -3,7 +3,7 @@
 mod common;
 
 use common::Random;
-use i_overlay_core::{
+use fadrinzo::{
     bounding_box, doubled_area, doubled_area_of_shape, square, FillRule, IntContour, IntPoint, Overlay, OverlayRule,
 };
 

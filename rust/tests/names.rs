@@ -1,6 +1,6 @@
 //! The names of rules and settings: what is written is read again, and nothing else is read but the letters of shapes.
 
-use i_overlay_core::{Engine, FillRule, OverlayRule, Precision, Rounding, RuleTable, ShapeType, Strategy, UnknownName};
+use fadrinzo::{Engine, FillRule, OverlayRule, Precision, Rounding, RuleTable, ShapeType, Strategy, UnknownName};
 use std::fmt::{Debug, Display};
 use std::str::FromStr;
 
@@ -45,15 +45,21 @@ fn precisions() {
         ("3,1", Precision { start: 3, progression: 1 }),
         ("999999999,0", Precision { start: 999_999_999, progression: 0 }),
     ];
-    let names = "absolute, high, medium-high, medium, medium-low, low, START,STEP (each of 1 to 9 digits)";
+    let names = "absolute, high, medium-high, medium, medium-low, low, START,STEP (two whole numbers)";
     for (name, precision) in precisions {
         assert_eq!(precision.to_string(), name);
         assert_eq!(name.parse(), Ok(precision));
         assert_eq!(format!("{precision:>20}"), format!("{name:>20}"));
     }
     assert_eq!("0,1".parse(), Ok(Precision::HIGH));
+    for precision in [1_000_000_000, usize::MAX].map(|start| Precision { start, progression: usize::MAX }) {
+        assert_eq!(precision.to_string().parse(), Ok(precision));
+        assert_eq!(format!("{precision:>50}"), format!("{:>50}", precision.to_string()));
+    }
     assert_eq!("000000003,01".parse(), Ok(Precision { start: 3, progression: 1 }));
-    for word in ["", "what", "High", "high ", "3", "3,", ",1", "3,1,1", "+3,1", "3,-1", "3, 1", "1234567890,1"] {
+    for word in
+        ["", "what", "High", "high ", "3", "3,", ",1", "3,1,1", "+3,1", "3,-1", "3, 1", "18446744073709551616,1"]
+    {
         let refused = word.parse::<Precision>().unwrap_err();
         assert_eq!(refused.to_string(), format!("`{word}` is no precision; write {names}"));
     }

@@ -3,7 +3,7 @@
 mod common;
 
 use common::Random;
-use i_overlay_core::{
+use fadrinzo::{
     square, Axis, Error, FillRule, IntContour, IntPoint, Overlay, OverlayRule, PointLocation, Precision, RangeFault,
     Rounding, RuleTable, ShapeType, Solver, Strategy, MAX_COORD, MIN_COORD,
 };
@@ -347,8 +347,8 @@ fn an_overlay_is_shown() {
 fn contours_and_segments_by_turns() {
     let mut overlay = Overlay::with_contours(&[square(0, 4).to_vec()], &[square(2, 6).to_vec()]).unwrap();
     let mut segments = Vec::new();
-    ShapeType::Subject.push_contour(&square(0, 9), &mut segments);
+    ShapeType::Subject.push_contour(&square(0, 9), &mut segments).unwrap();
     overlay.build_graph(&segments, OverlayRule::Subject, FillRule::NonZero).unwrap();
     assert_eq!(area(&mut overlay, OverlayRule::Union), 28);
-    assert_eq!(overlay.segments().len(), 4);
+    assert_eq!(overlay.segments().unwrap().len(), 4);
 }

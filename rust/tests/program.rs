@@ -7,7 +7,7 @@
 mod common;
 
 use common::Random;
-use i_overlay_core::{
+use fadrinzo::{
     Engine, FillRule, IntPoint, Overlay, OverlayNode, OverlayRule, Precision, Segment, ShapeType, Solver, Strategy,
 };
 use std::fmt::Write as _;
@@ -74,7 +74,7 @@ fn lines_of(segments: &[Segment]) -> String {
 fn split_text(overlay: &mut Overlay, segments: &[Segment], solver: Solver) -> String {
     let change = overlay.split(segments, solver).unwrap();
     let mut text = String::new();
-    for Segment { a, b, count } in overlay.segments() {
+    for Segment { a, b, count } in overlay.segments().unwrap() {
         writeln!(text, "seg {} {} {} {} {} {}", a.x, a.y, b.x, b.y, count.subj, count.clip).expect("text");
     }
     writeln!(text, "flag {}", change.has_changed).expect("text");
@@ -130,7 +130,7 @@ fn sides(random: &mut Random, width: i32) -> Vec<Segment> {
         let corner = |random: &mut Random| random.below(width) - width / 2;
         let size = 3 + random.below(60);
         let contour: Vec<IntPoint> = (0..size).map(|_| IntPoint::new(corner(random), corner(random))).collect();
-        shape.push_contour(&contour, &mut segments);
+        shape.push_contour(&contour, &mut segments).unwrap();
     }
     segments
 }
@@ -253,7 +253,7 @@ impl Words {
         let solver = Solver { strategy: self.strategy.1, precision: self.precision.1 };
         let passes = overlay.split(segments, solver).unwrap().passes;
         let is_listed = matches!(self.strategy.1, Strategy::List | Strategy::Auto);
-        let left = overlay.segments().len();
+        let left = overlay.segments().unwrap().len();
         if passes >= 256 || left >= 4000 || !(is_listed || left > 4) {
             return None;
         }

@@ -5,7 +5,7 @@ mod common;
 mod model;
 
 use common::Random;
-use i_overlay_core::{
+use fadrinzo::{
     Engine, Error, Fault, FillRule, IntPoint, Overlay, OverlayRule, Precision, RuleTable, Segment, ShapeCountBoolean,
     Solver, Strategy,
 };
@@ -140,7 +140,7 @@ impl Run {
 /// The arrangement of the last call.
 fn segments_of(overlay: &mut Overlay) -> Vec<(Point, Point, Count)> {
     let wide = |point: IntPoint| (point.x.into(), point.y.into());
-    let segments = overlay.segments().iter();
+    let segments = overlay.segments().unwrap().iter();
     segments.map(|it| (wide(it.a), wide(it.b), (it.count.subj.into(), it.count.clip.into()))).collect()
 }
 
@@ -150,7 +150,7 @@ fn listed(split: &Split) -> Vec<(Point, Point, Count)> {
 }
 
 /// Links with the nodes at their ends, as text.
-fn text_of(graph: &i_overlay_core::OverlayGraph) -> String {
+fn text_of(graph: &fadrinzo::OverlayGraph) -> String {
     let mut text = String::new();
     for link in graph.links() {
         let (a, b) = (link.a, link.b);
@@ -159,8 +159,8 @@ fn text_of(graph: &i_overlay_core::OverlayGraph) -> String {
     }
     for node in graph.nodes() {
         let indexes = match &node {
-            i_overlay_core::OverlayNode::Bridge(two) => two.as_slice(),
-            i_overlay_core::OverlayNode::Cross(several) => several,
+            fadrinzo::OverlayNode::Bridge(two) => two.as_slice(),
+            fadrinzo::OverlayNode::Cross(several) => several,
         };
         writeln!(text, "{indexes:?}").expect("text");
     }
@@ -212,11 +212,11 @@ fn on_a_lattice(random: &mut Random) -> Vec<Segment> {
 /// The sides of closed contours.
 fn of_contours(random: &mut Random, span: i32) -> Vec<Segment> {
     let mut segments = Vec::new();
-    for shape in [i_overlay_core::ShapeType::Subject, i_overlay_core::ShapeType::Clip] {
+    for shape in [fadrinzo::ShapeType::Subject, fadrinzo::ShapeType::Clip] {
         let contour: Vec<IntPoint> = (0..3 + random.below(4))
             .map(|_| IntPoint::new(random.below(span) - span / 2, random.below(span) - span / 2))
             .collect();
-        shape.push_contour(&contour, &mut segments);
+        shape.push_contour(&contour, &mut segments).unwrap();
     }
     segments
 }

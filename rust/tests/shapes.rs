@@ -5,7 +5,7 @@ mod common;
 mod validity;
 
 use common::Random;
-use i_overlay_core::{FillRule, IntContour, IntPoint, IntShape, Overlay, OverlayRule, RuleTable, ShapeType};
+use fadrinzo::{FillRule, IntContour, IntPoint, IntShape, Overlay, OverlayRule, RuleTable, ShapeType};
 use std::collections::{BTreeMap, HashMap};
 use validity::{winding_number, wrongs, Place, Wrong};
 

@@ -1,6 +1,6 @@
 //! Overlays that move from thread to thread.
 
-use i_overlay_core::{square, FillRule, IntContour, IntPoint, Overlay, OverlayRule, ShapeType, Solver};
+use fadrinzo::{square, FillRule, IntContour, IntPoint, Overlay, OverlayRule, ShapeType, Solver};
 use std::thread;
 
 const fn may_move<T: Send>() {}
@@ -21,14 +21,14 @@ fn there_and_back() {
         overlay.add_contour(&square(2, 6), ShapeType::Clip).unwrap();
         let union = overlay.overlay(OverlayRule::Union, FillRule::NonZero).unwrap();
         let mut sides = Vec::new();
-        ShapeType::Subject.push_contour(&square(0, 4), &mut sides);
-        ShapeType::Clip.push_contour(&square(2, 6), &mut sides);
+        ShapeType::Subject.push_contour(&square(0, 4), &mut sides).unwrap();
+        ShapeType::Clip.push_contour(&square(2, 6), &mut sides).unwrap();
         let change = overlay.split(&sides, Solver::AUTO).unwrap();
         (area(&union), change.has_changed, overlay)
     });
     let (union, has_changed, mut overlay) = worker.join().unwrap();
     assert_eq!((union, has_changed), (4 * 4 + 4 * 4 - 2 * 2, true));
-    assert_eq!(overlay.segments().len(), 12);
+    assert_eq!(overlay.segments().unwrap().len(), 12);
     let shared = overlay.overlay(OverlayRule::Intersect, FillRule::NonZero).unwrap();
     let mut corners = shared.concat();
     corners.sort_unstable();

@@ -1,7 +1,7 @@
 //! Unit tests of `i_overlay` 9.0.1, through this package: its inputs and the values that it expects, written anew. The doc
 //! of each test names the upstream module and the tests there.
 
-use i_overlay_core::{
+use fadrinzo::{
     cross, ClipRule, CrossType, FillRule, IntPoint, LineSegment, Overlay, Precision, Segment, ShapeCountBoolean, Solver,
 };
 
@@ -30,7 +30,7 @@ fn in_order(mut segments: Vec<Segment>) -> Vec<Segment> {
 fn joined(segments: &[Segment]) -> Vec<Segment> {
     let mut overlay = Overlay::new().unwrap();
     overlay.join(segments).unwrap();
-    overlay.segments().to_vec()
+    overlay.segments().unwrap().to_vec()
 }
 
 /// Each strategy splits the given segments into the wanted ones.
@@ -38,7 +38,7 @@ fn split_into(given: &[Segment], wanted: &[Segment]) {
     let mut overlay = Overlay::new().unwrap();
     for solver in SOLVERS {
         overlay.split(given, solver).unwrap();
-        assert_eq!(overlay.segments(), wanted, "{:?}", solver.strategy);
+        assert_eq!(overlay.segments().unwrap(), wanted, "{:?}", solver.strategy);
     }
 }
 
@@ -134,7 +134,7 @@ fn no_segment_is_split_at_its_end() {
             }
             let solver = Solver { precision: Precision { start, progression: 0 }, ..Solver::LIST };
             overlay.split(&[target, other], solver).unwrap();
-            assert!(overlay.segments().iter().all(|segment| segment.a < segment.b));
+            assert!(overlay.segments().unwrap().iter().all(|segment| segment.a < segment.b));
         }
     }
 }

@@ -1,6 +1,6 @@
 //! Overlays of small contours, worked by hand.
 
-use i_overlay_core::{
+use fadrinzo::{
     Axis, Error, FillRule, IntContour, Overlay, OverlayRule, RangeFault, Rounding, ShapeType, MAX_COORD, MIN_COORD,
 };
 

@@ -1,7 +1,7 @@
 //! All 300 segments between points of the square from (-2, -2) to (2, 2), two by two: no mark is an end of the segment that it
 //! marks.
 
-use i_overlay_core::{cross, CrossType, IntPoint, Segment, ShapeCountBoolean};
+use fadrinzo::{cross, CrossType, IntPoint, Segment, ShapeCountBoolean};
 
 /// The segments between the points of the square, each from its smaller end.
 fn small_segments() -> Vec<Segment> {

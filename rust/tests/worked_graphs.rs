@@ -1,6 +1,6 @@
 //! Overlays of segments worked by hand, under each strategy and with both engines.
 
-use i_overlay_core::{
+use fadrinzo::{
     Engine, Error, Fault, FillRule, IntPoint, Overlay, OverlayNode, OverlayRule, Precision, Segment, ShapeCountBoolean,
     Solver, Strategy,
 };
@@ -93,7 +93,7 @@ fn two_squares() {
             assert_eq!(links, wanted, "{engine:?} {strategy:?}");
             let bridges = [[0, 1], [2, 0], [3, 1], [2, 3]].map(OverlayNode::Bridge);
             assert_eq!(graph.nodes().collect::<Vec<_>>(), bridges, "{engine:?} {strategy:?}");
-            assert_eq!(rows(overlay.segments()), SPLIT_SQUARES, "{engine:?} {strategy:?}");
+            assert_eq!(rows(overlay.segments().unwrap()), SPLIT_SQUARES, "{engine:?} {strategy:?}");
         }
     }
 }
@@ -250,7 +250,7 @@ fn one_overlay_is_used_again() {
             let graph = overlay.build_graph_with_solver(&segments(given), rule, FillRule::NonZero, solver);
             let found = graph.map(|graph| (graph.links().len(), graph.node_count()));
             assert_eq!(found, sizes, "{name} {solver:?}");
-            assert_eq!(rows(overlay.segments()), left, "{name} {solver:?}");
+            assert_eq!(rows(overlay.segments().unwrap()), left, "{name} {solver:?}");
         }
     }
 }
@@ -262,7 +262,7 @@ fn greatest_counts_above_one_another() {
     for solver in STRATEGIES.map(high) {
         let change = overlay.split(&segments(&GREATEST_COUNTS), solver).unwrap();
         assert_eq!((change.has_changed, change.passes), (false, 1), "{solver:?}");
-        assert_eq!(rows(overlay.segments()), GREATEST_COUNTS, "{solver:?}");
+        assert_eq!(rows(overlay.segments().unwrap()), GREATEST_COUNTS, "{solver:?}");
         let built = overlay.build_all(&segments(&GREATEST_COUNTS), FillRule::NonZero, solver);
         assert_eq!(built.map(|graph| graph.node_count()), Err(LEAVES_RANGE), "{solver:?}");
     }
@@ -277,7 +277,7 @@ fn a_line_of_the_greatest_count_is_bent() {
     for solver in STRATEGIES.map(high) {
         let change = overlay.split(&given, solver).unwrap();
         assert_eq!((change.has_changed, change.passes), (true, 2), "{solver:?}");
-        assert_eq!(rows(overlay.segments()), wanted, "{solver:?}");
+        assert_eq!(rows(overlay.segments().unwrap()), wanted, "{solver:?}");
         let graph = overlay.build_all(&given, FillRule::NonZero, solver).unwrap();
         assert_eq!(graph.links().iter().map(|link| link.fill).collect::<Vec<_>>(), [1, 3, 3], "{solver:?}");
     }
@@ -299,7 +299,7 @@ fn even_star(strategy: Strategy, limit: u32) -> (u64, usize) {
     let mut overlay = Overlay::with_snap_limit(limit).unwrap();
     let change = overlay.split(&segments(&closed_star()), high(strategy)).unwrap();
     assert!(change.has_changed);
-    let arranged = overlay.segments().to_vec();
+    let arranged = overlay.segments().unwrap().to_vec();
     for fill in FILL_RULES {
         for (rule, _) in KEPT {
             let graph = overlay.build_graph_with_solver(&arranged, rule, fill, high(strategy)).unwrap();

@@ -1,6 +1,6 @@
 //! Lines cut by a square, worked by hand, under each strategy and with both engines.
 
-use i_overlay_core::{
+use fadrinzo::{
     ClipRule, Engine, Error, Fault, FillRule, IntPoint, LineSegment, Overlay, Precision, SegmentFill, Solver, Strategy,
 };
 
@@ -102,7 +102,7 @@ fn a_line_joins_a_side() {
     for solver in STRATEGIES.map(high) {
         for (line, mask) in [(ALONG, 2), (BACK, 1)] {
             cut(&mut overlay, line, solver, FillRule::NonZero, INSIDE);
-            let after = rows(overlay.lines());
+            let after = rows(overlay.lines().unwrap());
             assert!(after.len() == 4 && after.contains(&((0, 0), (10, 0), 1, mask)), "{after:?}");
         }
     }
@@ -131,7 +131,7 @@ fn counts_of_lines() {
         for (given, wanted, left) in COUNTS {
             let built = overlay.build_clip(&segments(given), INSIDE, FillRule::NonZero, solver);
             assert_eq!(built.map(|graph| graph.links().len()), wanted, "{given:?}");
-            assert_eq!(rows(overlay.lines()), left, "{given:?}");
+            assert_eq!(rows(overlay.lines().unwrap()), left, "{given:?}");
         }
     }
 }

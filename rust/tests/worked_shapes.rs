@@ -1,6 +1,6 @@
 //! Overlays in shapes, worked by hand: which hole belongs to which outer boundary, and what touches in points.
 
-use i_overlay_core::{FillRule, IntContour, IntShape, Overlay, OverlayRule};
+use fadrinzo::{FillRule, IntContour, IntShape, Overlay, OverlayRule};
 
 /// A contour as the tables write it.
 type Corners = &'static [(i32, i32)];

@@ -1,6 +1,6 @@
 //! Splits worked by hand, under each strategy and with both engines.
 
-use i_overlay_core::{
+use fadrinzo::{
     Change, Engine, Error, Fault, IntPoint, Overlay, Precision, Segment, ShapeCountBoolean, ShapeType, Solver, Strategy,
 };
 use std::collections::BTreeMap;
@@ -289,7 +289,7 @@ fn high(strategy: Strategy) -> Solver {
 /// What a split returns, and the segments after it.
 fn split(overlay: &mut Overlay, given: &[Row], solver: Solver) -> (Result<Change, Error>, Vec<Row>) {
     let change = overlay.split(&segments(given), solver);
-    let rows = overlay.segments().iter().map(|it| (it.a.into(), it.b.into(), it.count.subj));
+    let rows = overlay.segments().unwrap().iter().map(|it| (it.a.into(), it.b.into(), it.count.subj));
     (change, rows.collect())
 }
 
@@ -325,7 +325,7 @@ fn segments_on_one_pair() {
         for (counts, (subj, clip)) in cases {
             let given: Vec<Segment> = counts.iter().map(|&(a, b, subj, clip)| segment(a, b, subj, clip)).collect();
             assert!(overlay.split(&given, high(strategy)).unwrap().has_changed, "{strategy:?}");
-            assert_eq!(overlay.segments(), [segment((1, 2), (3, 4), subj, clip)], "{strategy:?}");
+            assert_eq!(overlay.segments().unwrap(), [segment((1, 2), (3, 4), subj, clip)], "{strategy:?}");
         }
     }
 }
@@ -642,7 +642,7 @@ fn joins() {
             let joined = overlay.join(&given.iter().map(segment).collect::<Vec<_>>());
             assert_eq!(joined.map(|change| change.has_changed), flag, "{name} {engine:?}");
             let wanted: Vec<Segment> = wanted.iter().map(segment).collect();
-            assert_eq!(overlay.segments(), wanted, "{name} {engine:?}");
+            assert_eq!(overlay.segments().unwrap(), wanted, "{name} {engine:?}");
         }
     }
 }
@@ -655,7 +655,7 @@ fn sides_of_squares() -> Vec<Segment> {
     let mut segments = Vec::new();
     for (x, y) in (0..SQUARES).flat_map(|y| (0..SQUARES).map(move |x| (x, y))) {
         let corners = [(x, y), (x + 1, y), (x + 1, y + 1), (x, y + 1)];
-        ShapeType::Subject.push_contour(&corners.map(IntPoint::from), &mut segments);
+        ShapeType::Subject.push_contour(&corners.map(IntPoint::from), &mut segments).unwrap();
     }
     segments
 }
@@ -678,7 +678,7 @@ fn sides_of_neighbors_cancel() {
         let mut overlay = Overlay::new().unwrap().with_engine(engine);
         let change = overlay.split(&sides_of_squares(), Solver { strategy, precision: Precision::HIGH }).unwrap();
         assert_eq!((change.has_changed, change.passes), (true, 1), "{engine:?} {strategy:?}");
-        assert_eq!(overlay.segments(), wanted, "{engine:?} {strategy:?}");
+        assert_eq!(overlay.segments().unwrap(), wanted, "{engine:?} {strategy:?}");
     }
 }
 
@@ -690,7 +690,7 @@ fn great_counts_of_neighbors() {
     let mut overlay = Overlay::new().unwrap();
     segments.push(side((0, 0), (1, 0), i32::MAX - 1));
     overlay.split(&segments, Solver::AUTO).unwrap();
-    let kept = overlay.segments();
+    let kept = overlay.segments().unwrap();
     assert!(kept.contains(&side((0, 0), (1, 0), i32::MAX)) && kept.len() == 4 * SQUARES as usize);
     segments.push(side((0, 0), (1, 0), 1));
     assert_eq!(overlay.split(&segments, Solver::AUTO).map(|change| change.has_changed), LEAVES_RANGE);

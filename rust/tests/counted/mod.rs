@@ -27,6 +27,15 @@ pub fn inside<T>(call: impl FnOnce() -> T) -> T {
     result
 }
 
+/// Runs what belongs to no call, within one.
+#[allow(dead_code, reason = "not every test has such a part")]
+pub fn outside<T>(part: impl FnOnce() -> T) -> T {
+    let was_inside = IS_INSIDE.replace(false);
+    let result = part();
+    IS_INSIDE.set(was_inside);
+    result
+}
+
 /// Runs a call of which growths are refused.
 pub fn refused<T>(refusals: Refusals, call: impl FnOnce() -> T) -> T {
     REFUSALS.set(Some(refusals));

@@ -1,6 +1,6 @@
 //! Whether shapes are valid, by whole arithmetic of its own: nothing here is taken from the engine.
 
-use i_overlay_core::{IntContour, IntPoint, IntShape};
+use fadrinzo::{IntContour, IntPoint, IntShape};
 use std::collections::{BTreeSet, HashMap};
 
 /// A place of the plane: a point whose coordinates are divided by a number.

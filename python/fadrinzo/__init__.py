@@ -1,13 +1,16 @@
 """Overlays of polygons, by the proved library: lists of points in, outer boundaries with their holes out.
 
-    >>> from overlay_core import overlay
+    >>> from fadrinzo import overlay
     >>> overlay([[(0, 0), (8, 0), (8, 8), (0, 8)]], [[(2, 2), (6, 2), (6, 6), (2, 6)]], "difference")
     [([(0, 8), (0, 0), (8, 0), (8, 8)], [[(2, 2), (2, 6), (6, 6), (6, 2)]])]
 
-The library is found in the folder `c/out` of the repository, or where the variable OVERLAY_CORE names its file.
+The library is found beside this file, where `pip install` puts it, else in the folder `c/out` of the repository, or where the variable
+FADRINZO_SO names its file.
 """
 import contextlib
 import ctypes
+import decimal
+import numbers
 import os
 import pathlib
 import weakref
@@ -17,13 +20,15 @@ __all__ = ["Arrangement", "MAX_COORD", "MIN_COORD", "OverlayError", "locate", "o
 MIN_COORD, MAX_COORD = -(1 << 30), (1 << 30) - 1
 
 RULES = {"subject": 0, "clip": 1, "intersect": 2, "union": 3, "difference": 4, "inverse-difference": 5, "xor": 6}
+NOTHING = 16  # the table that keeps no point
 FILLS = {"evenodd": 0, "nonzero": 1, "positive": 2, "negative": 3}
 LOCATIONS = ["inside", "boundary", "outside"]
 VERSION = 1
+NO_MEMORY = 1
 
 
 class OverlayError(Exception):
-    """The library refused a call: there was no memory, or contours wind too often around a point."""
+    """The library refused a call: contours wind too often around a point. Where there was no memory it is a MemoryError."""
 
 
 class _Result(ctypes.Structure):
@@ -38,13 +43,20 @@ class _Result(ctypes.Structure):
     ]
 
 
+def _path():
+    """The file of the library: the one that FADRINZO_SO names, or the one beside this file, or that of the repository."""
+    here = pathlib.Path(__file__).resolve()
+    beside = here.with_name("libfadrinzo.so")
+    return os.environ.get("FADRINZO_SO") or (beside if beside.is_file() else here.parents[2] / "c/out/libfadrinzo.so")
+
+
 def _load():
     """Loads the library, and declares its calls."""
-    path = os.environ.get("OVERLAY_CORE") or pathlib.Path(__file__).resolve().parents[2] / "c/out/liboverlay_core.so"
+    path = _path()
     try:
         library = ctypes.CDLL(str(path))
     except OSError as error:
-        raise ImportError(f"{path} is not there: `python3 tools/archive.py` and `make -C c` make it ({error})") from error
+        raise ImportError(f"{path} cannot be loaded: `pip install ./python` or `make -C c`, at the top of the repository, makes it ({error})") from error
     handle, number, points = ctypes.c_void_p, ctypes.c_int, ctypes.POINTER(ctypes.c_int32)
     calls = {
         "version": (ctypes.c_uint32, []),
@@ -61,10 +73,10 @@ def _load():
         "get": (_Result, [handle]),
     }
     for name, (result, arguments) in calls.items():
-        call = getattr(library, f"overlay_core_{name}")
+        call = getattr(library, f"fadrinzo_{name}")
         call.restype, call.argtypes = result, arguments
-    if library.overlay_core_version() != VERSION:
-        raise ImportError(f"{path} has version {library.overlay_core_version()}, and this package is for version {VERSION}")
+    if library.fadrinzo_version() != VERSION:
+        raise ImportError(f"{path} has version {library.fadrinzo_version()}, and this package is for version {VERSION}")
     return library
 
 
@@ -86,41 +98,79 @@ def _code(kind, name, codes):
     return codes[name]
 
 
-def _coordinate(value, scale, where):
-    """A coordinate as the library takes it."""
-    if scale is None:
-        if isinstance(value, bool) or not hasattr(value, "__index__"):
-            raise TypeError(f"{where}: {value!r} is no whole number; give a scale for others")
-        number = value.__index__()
-    else:
+def _shown(value):
+    """A value in a sentence, cut where it is long."""
+    try:
+        text = repr(value)
+    except ValueError:
+        text = f"a number of {value.bit_length()} bits"
+    return text if len(text) <= 60 else f"{text[:60]}.."
+
+
+def _scaled(value, scale, where):
+    """A number times the scale, where that is in range, else one that is out of it."""
+    if not isinstance(value, numbers.Number):
+        raise TypeError(f"{where}: {_shown(value)} is no number")
+    try:
         scaled = value * scale
         if scaled != scaled or scaled in (float("inf"), float("-inf")):
-            raise ValueError(f"{where}: {value!r} is no finite number")
-        number = round(scaled)
+            raise ValueError(f"{where}: {_shown(value)} is no finite number")
+        # a number far out of range is not rounded: it may have very many digits
+        return round(scaled) if MIN_COORD - 1 < scaled < MAX_COORD + 1 else MAX_COORD + 1
+    except TypeError as error:
+        raise TypeError(f"{where}: {_shown(value)} times the scale {_shown(scale)} is no number that can be rounded ({error})") from None
+    except (OverflowError, decimal.Overflow):
+        return MAX_COORD + 1
+    except ArithmeticError:
+        raise ValueError(f"{where}: {_shown(value)} is no finite number") from None
+
+
+def _coordinate(value, scale, where):
+    """A coordinate as the library takes it."""
+    if scale is not None:
+        number = _scaled(value, scale, where)
+    elif isinstance(value, bool) or not hasattr(value, "__index__"):
+        raise TypeError(f"{where}: {_shown(value)} is no whole number; give a scale for others")
+    else:
+        number = value.__index__()
     if not MIN_COORD <= number <= MAX_COORD:
         of_scale = "" if scale is None else f" times {scale}"
-        raise ValueError(f"{where}: {value!r}{of_scale} is outside of {MIN_COORD} to {MAX_COORD}")
+        raise ValueError(f"{where}: {_shown(value)}{of_scale} is outside of {MIN_COORD} to {MAX_COORD}")
     return number
+
+
+def _point(point, where):
+    """The coordinates of a point."""
+    try:
+        found = tuple(point)
+    except TypeError:
+        raise TypeError(f"{where}: {_shown(point)} is no point of two numbers") from None
+    if len(found) != 2:
+        raise ValueError(f"{where}: {_shown(point)} has {len(found)} numbers, not two")
+    return found
 
 
 def _numbers(contour, scale, where):
     """The coordinates of a contour, without a last point that repeats the first."""
-    points = [tuple(point) for point in contour]
+    try:
+        given = list(contour)
+    except TypeError:
+        raise TypeError(f"{where}: {_shown(contour)} is no list of points") from None
+    points = [_point(point, f"{where}, point {index}") for index, point in enumerate(given)]
     if len(points) > 1 and points[0] == points[-1]:
         points.pop()
-    numbers = []
+    found = []
     for index, point in enumerate(points):
         at = f"{where}, point {index}"
-        if len(point) != 2:
-            raise ValueError(f"{at}: {point!r} has {len(point)} numbers, not two")
-        numbers += [_coordinate(point[0], scale, f"{at}: x"), _coordinate(point[1], scale, f"{at}: y")]
-    return numbers
+        found += [_coordinate(point[0], scale, f"{at}: x"), _coordinate(point[1], scale, f"{at}: y")]
+    return found
 
 
 def _check(status):
     """Raises what a status says."""
     if status:
-        raise OverlayError(_calls().overlay_core_text(status).decode())
+        error = MemoryError if status == NO_MEMORY else OverlayError
+        raise error(_calls().fadrinzo_text(status).decode())
 
 
 def _contours(result, scale):
@@ -142,7 +192,7 @@ def _parts(result, scale):
 
 def _shapes(handle, scale):
     """The result of a handle in shapes, each an outer boundary and the list of its holes."""
-    return [(contours[0], contours[1:]) for contours in _parts(_calls().overlay_core_get(handle), scale)]
+    return [(contours[0], contours[1:]) for contours in _parts(_calls().fadrinzo_get(handle), scale)]
 
 
 def _load_contours(subject, clip, scale):
@@ -150,15 +200,15 @@ def _load_contours(subject, clip, scale):
     given = [[_numbers(contour, scale, f"contour {index} of the {name}") for index, contour in enumerate(contours)]
              for name, contours in [("subject", subject), ("clip", clip)]]
     calls = _calls()
-    handle = calls.overlay_core_new()
+    handle = calls.fadrinzo_new()
     if not handle:
-        raise OverlayError("there is not enough memory")
+        _check(NO_MEMORY)
     try:
         for shape, contours in enumerate(given):
             for numbers in contours:
-                _check(calls.overlay_core_add_contour(handle, shape, (ctypes.c_int32 * len(numbers))(*numbers), len(numbers) // 2))
+                _check(calls.fadrinzo_add_contour(handle, shape, (ctypes.c_int32 * len(numbers))(*numbers), len(numbers) // 2))
     except BaseException:
-        calls.overlay_core_free(handle)
+        calls.fadrinzo_free(handle)
         raise
     return handle
 
@@ -170,7 +220,7 @@ def _loaded(subject, clip, scale):
     try:
         yield handle
     finally:
-        _calls().overlay_core_free(handle)
+        _calls().fadrinzo_free(handle)
 
 
 def overlay(subject, clip, rule, fill="nonzero", scale=None):
@@ -180,15 +230,16 @@ def overlay(subject, clip, rule, fill="nonzero", scale=None):
     left out. With a `scale`, coordinates may be any numbers: each is multiplied by it and rounded, and results are divided by it.
     A scale of 1,000 or more leaves room below the unit, so that small overlaps do not vanish.
 
-    The direction of a contour counts, but for the fill "evenodd": under "nonzero" two contours that overlap and run in opposite
-    directions cancel. `rule` is one of subject, clip, intersect, union, difference, inverse-difference, xor.
+    Under "nonzero" two contours that overlap and run in opposite directions cancel. Under the fill "evenodd" the direction of a contour
+    changes the region by no more than half a unit, but it may change points: edges with the same two ends that run against one another
+    cancel before anything is cut. `rule` is one of subject, clip, intersect, union, difference, inverse-difference, xor.
 
-    Raises ValueError or TypeError, which name the point, where a coordinate is of no use, and OverlayError where the library
-    refuses.
+    Raises ValueError or TypeError, which name the point, where a coordinate is of no use, OverlayError where contours wind too often, and
+    MemoryError where there is no memory; then another call may follow.
     """
     rule_code, fill_code = _code("rule", rule, RULES), _code("fill", fill, FILLS)
     with _loaded(subject, clip, scale) as handle:
-        _check(_calls().overlay_core_overlay_shapes(handle, rule_code, fill_code))
+        _check(_calls().fadrinzo_overlay_shapes(handle, rule_code, fill_code))
         return _shapes(handle, scale)
 
 
@@ -209,19 +260,33 @@ class Arrangement:
     def __init__(self, subject, clip, fill="nonzero", scale=None):
         fill_code = _code("fill", fill, FILLS)
         self._handle, self._scale = _load_contours(subject, clip, scale), scale
-        weakref.finalize(self, _calls().overlay_core_free, self._handle)
-        _check(_calls().overlay_core_arrange(self._handle, fill_code))
+        weakref.finalize(self, _calls().fadrinzo_free, self._handle)
+        _check(_calls().fadrinzo_arrange(self._handle, fill_code))
 
     def overlay(self, rule, collinear=True):
         """The overlay by a rule, as `overlay` returns it; if `collinear` is false, without the points at which a contour goes
         straight on."""
-        _check(_calls().overlay_core_arranged_shapes(self._handle, _code("rule", rule, RULES), not collinear))
+        _check(_calls().fadrinzo_arranged_shapes(self._handle, _code("rule", rule, RULES), not collinear))
         return _shapes(self._handle, self._scale)
+
+    @property
+    def reach(self):
+        """How far the split moved edges at most, in x and in y, in halves of a unit, which is 1 / scale where there is a `scale`.
+
+        It is 0 where no two edges cross at a point without whole coordinates, and at most 1. How given coordinates are rounded is not
+        counted.
+
+        >>> Arrangement([[(0, 0), (5, 5), (0, 5)]], [[(0, 5), (5, 0), (5, 5)]]).reach
+        1
+        """
+        # an overlay that keeps nothing has the reach of its arrangement
+        _check(_calls().fadrinzo_arranged(self._handle, NOTHING, 0))
+        return _calls().fadrinzo_get(self._handle).reach
 
     def contours(self, rule, collinear=True):
         """The same as contours that have it on their left: outer boundaries counterclockwise, holes clockwise."""
-        _check(_calls().overlay_core_arranged(self._handle, _code("rule", rule, RULES), not collinear))
-        return list(_contours(_calls().overlay_core_get(self._handle), self._scale))
+        _check(_calls().fadrinzo_arranged(self._handle, _code("rule", rule, RULES), not collinear))
+        return list(_contours(_calls().fadrinzo_get(self._handle), self._scale))
 
 
 def overlay_by_rules(subject, clip, rules, fill="nonzero", scale=None):
@@ -235,8 +300,8 @@ def overlay_by_rules(subject, clip, rules, fill="nonzero", scale=None):
     """
     codes, fill_code = [_code("rule", rule, RULES) for rule in rules], _code("fill", fill, FILLS)
     with _loaded(subject, clip, scale) as handle:
-        _check(_calls().overlay_core_overlay_by_rules(handle, (ctypes.c_int * len(codes))(*codes), len(codes), fill_code))
-        return _parts(_calls().overlay_core_get(handle), scale)
+        _check(_calls().fadrinzo_overlay_by_rules(handle, (ctypes.c_int * len(codes))(*codes), len(codes), fill_code))
+        return _parts(_calls().fadrinzo_get(handle), scale)
 
 
 def locate(contours, point, fill="nonzero", scale=None):
@@ -249,4 +314,4 @@ def locate(contours, point, fill="nonzero", scale=None):
     fill_code = _code("fill", fill, FILLS)
     x, y = _numbers([point], scale, "the point")
     with _loaded(contours, [], scale) as handle:
-        return LOCATIONS[_calls().overlay_core_locate(handle, 0, fill_code, x, y)]
+        return LOCATIONS[_calls().fadrinzo_locate(handle, 0, fill_code, x, y)]

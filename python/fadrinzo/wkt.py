@@ -3,23 +3,37 @@
     >>> overlay_wkt(["POLYGON ((0 0, 1.5 0, 1.5 1.5, 0 1.5, 0 0))"], ["POLYGON ((0.5 0.5, 1 0.5, 1 1, 0.5 1, 0.5 0.5))"], "difference")
     'MULTIPOLYGON (((0 1.5, 0 0, 1.5 0, 1.5 1.5, 0 1.5), (0.5 0.5, 0.5 1, 1 1, 1 0.5, 0.5 0.5)))'
 
-The first ring of a polygon is its outer boundary and the others are its holes, whichever way they run. Coordinates are read as they
-are written, moved to an origin amid all of them, and multiplied by the greatest power of ten for which they are in range: digits
-behind that are rounded.
+The first ring of a polygon is its outer boundary and the others are its holes, whichever way they run. A ring need not repeat its
+first point at its end, and one of fewer than three points encloses nothing. Keywords may be in any case, and a member of a
+MULTIPOLYGON may be EMPTY. Points have two coordinates: Z and M are refused.
+
+Coordinates are read as they are written, moved to an origin amid all of them, and multiplied by the greatest power of ten for which
+they are in range: digits behind that are rounded. Where a polygon vanishes so, a WktWarning says which power that is.
 """
 import decimal
 import re
+import warnings
 
 from . import MAX_COORD, overlay
 
-__all__ = ["WktError", "overlay_wkt", "polygons_of"]
+__all__ = ["WktError", "WktWarning", "overlay_wkt", "polygons_of"]
 
 WORD = re.compile(r"[(),]|[^\s(),]+")
-MOST_DIGITS = 9
+NUMBER = re.compile(r"[+-]?([0-9]+(\.[0-9]*)?|\.[0-9]+)([eE][+-]?[0-9]+)?")
+NOT_FINITE = re.compile(r"[+-]?(nan|inf|infinity)", re.IGNORECASE)
+MORE_COORDINATES = ("Z", "M", "ZM")
+# the powers of ten between which numbers lie, so that each is written in few digits; those of floats are within them
+MOST_EXPONENT = 330
+# digits of sums and products: enough for all numbers between these powers
+DIGITS = 1_000
 
 
 class WktError(ValueError):
     """A line is no POLYGON or MULTIPOLYGON; the text says where and why."""
+
+
+class WktWarning(UserWarning):
+    """A polygon is so small beside the others that nothing of it is left on their grid."""
 
 
 class _Words:
@@ -29,6 +43,10 @@ class _Words:
         self.found = [(it.start() + 1, it[0]) for it in WORD.finditer(line)]
         self.where, self.at = where, 0
 
+    def next(self):
+        """The next word, in capitals; an empty one at the end."""
+        return self.found[self.at][1].upper() if self.at < len(self.found) else ""
+
     def fail(self, wanted):
         """Raises what is wrong with the next word."""
         if self.at == len(self.found):
@@ -36,21 +54,32 @@ class _Words:
         column, word = self.found[self.at]
         raise WktError(f"{self.where}, column {column}: {word!r} is where {wanted} has to be")
 
+    def refuse(self, why):
+        """Raises a sentence on the next word."""
+        column, word = self.found[self.at]
+        raise WktError(f"{self.where}, column {column}: {word!r} {why}")
+
     def take(self, wanted, *words):
         """Takes the next word, which has to be one of these."""
-        if self.at == len(self.found) or self.found[self.at][1] not in words:
+        word = self.next()
+        if word not in words:
             self.fail(wanted)
         self.at += 1
-        return self.found[self.at - 1][1]
+        return word
 
     def number(self):
         """Takes a decimal."""
-        try:
-            number = decimal.Decimal(self.found[self.at][1])
-        except (IndexError, decimal.InvalidOperation):
-            self.fail("a number")
-        if not number.is_finite():
+        word = self.next()
+        if NOT_FINITE.fullmatch(word):
             self.fail("a finite number")
+        if not NUMBER.fullmatch(word):
+            self.fail("a number")
+        try:
+            number = decimal.Decimal(word)
+        except decimal.InvalidOperation:
+            number = None
+        if number is None or number and abs(number.adjusted()) > MOST_EXPONENT:
+            self.refuse(f"is not between 1e-{MOST_EXPONENT} and 1e{MOST_EXPONENT}, nor 0")
         self.at += 1
         return number
 
@@ -70,16 +99,33 @@ class _Words:
         """Takes the rings of a polygon."""
         return self.group(lambda: self.group(self.point))
 
+    def member(self):
+        """Takes a polygon of a MULTIPOLYGON, or EMPTY, which has no ring."""
+        if self.next() == "EMPTY":
+            self.at += 1
+            return []
+        return self.polygon()
+
+    def name(self):
+        """Takes the name of a geometry of points with two coordinates."""
+        word = self.next()
+        glued = any(word == name + more for name in ("POLYGON", "MULTIPOLYGON") for more in MORE_COORDINATES)
+        if not glued:
+            word = self.take("POLYGON or MULTIPOLYGON", "POLYGON", "MULTIPOLYGON")
+        if glued or self.next() in MORE_COORDINATES:
+            self.refuse("says that points have more than two coordinates: only x and y are read")
+        return word
+
     def polygons(self):
         """Takes all words of a line: a geometry."""
-        name = self.take("POLYGON or MULTIPOLYGON", "POLYGON", "MULTIPOLYGON")
-        if self.at < len(self.found) and self.found[self.at][1] == "EMPTY":
+        name = self.name()
+        if self.next() == "EMPTY":
             self.at, found = self.at + 1, []
         else:
-            found = [self.polygon()] if name == "POLYGON" else self.group(self.polygon)
+            found = [self.polygon()] if name == "POLYGON" else self.group(self.member)
         if self.at < len(self.found):
             self.fail("the end")
-        return found
+        return [rings for rings in found if rings]
 
 
 def polygons_of(lines, name="line"):
@@ -95,14 +141,15 @@ def _grid_of(polygons):
     """The origin and the power of ten that take all points into the range of the library."""
     points = [point for polygon in polygons for ring in polygon for point in ring]
     if not points:
-        return (0, 0), 0
+        return (decimal.Decimal(0),) * 2, 0
     low, high = ([of(point[axis] for point in points) for axis in (0, 1)] for of in (min, max))
-    origin = tuple(int((low[axis] + high[axis]) / 2) for axis in (0, 1))
+    half = max((high[axis] - low[axis]) / 2 for axis in (0, 1))
+    # no more digits than the width has, so that the origin adds none to those of the points
+    grain = decimal.Decimal(1).scaleb(min(half.adjusted() if half else 0, 0))
+    origin = tuple(((low[axis] + high[axis]) / 2).quantize(grain) for axis in (0, 1))
     farthest = max(abs(point[axis] - origin[axis]) for point in points for axis in (0, 1))
-    digits = MOST_DIGITS
-    while farthest.scaleb(digits) > MAX_COORD:
-        digits -= 1
-    return origin, digits
+    digits = decimal.Decimal(MAX_COORD).adjusted() - farthest.adjusted() if farthest else 0
+    return origin, digits if farthest.scaleb(digits) <= MAX_COORD else digits - 1
 
 
 def _doubled_area(points):
@@ -115,7 +162,11 @@ def _rings(polygons, origin, digits):
     for polygon in polygons:
         for index, ring in enumerate(polygon):
             points = [tuple(int((point[axis] - origin[axis]).scaleb(digits).to_integral_value()) for axis in (0, 1)) for point in ring]
-            yield points[::-1] if (_doubled_area(points) < 0) == (index == 0) else points
+            area = _doubled_area(points)
+            if area == 0 and index == 0 and _doubled_area([[point[axis] - origin[axis] for axis in (0, 1)] for point in ring]) != 0:
+                x, y = ring[0]
+                warnings.warn(f"the polygon at {x} {y} vanishes: on the grid of all polygons a unit is 1e{-digits}", WktWarning, stacklevel=3)
+            yield points[::-1] if (area < 0) == (index == 0) else points
 
 
 def _text(number, origin, digits):
@@ -131,7 +182,7 @@ def overlay_wkt(subject, clip, rule, fill="nonzero", names=("line", "line")):
     raises.
     """
     with decimal.localcontext() as context:
-        context.prec = 60
+        context.prec = DIGITS
         sides = [polygons_of(lines, name) for lines, name in zip((subject, clip), names)]
         origin, digits = _grid_of(sides[0] + sides[1])
         shapes = overlay(*(list(_rings(side, origin, digits)) for side in sides), rule, fill)

@@ -1,8 +1,8 @@
-/* The exports of liboverlay_core.a. Written by tools/c_header.py from crates/overlay_c; do not edit.
+/* The exports of libfadrinzo_exports.a. Written by tools/c_header.py from crates/overlay_c; do not edit.
    Each requires a full handle, which overlay_c_new makes, and slices of the lengths that overlay_c_sizes reports. No
-   condition is tested: overlay_core.h has calls that test theirs. */
-#ifndef OVERLAY_CORE_EXPORTS_H
-#define OVERLAY_CORE_EXPORTS_H
+   condition is tested: fadrinzo.h has calls that test theirs. */
+#ifndef FADRINZO_EXPORTS_H
+#define FADRINZO_EXPORTS_H
 
 #include <stdbool.h>
 #include <stddef.h>
@@ -20,7 +20,7 @@ typedef struct {
     int32_t by;
     int32_t subj;
     int32_t clip;
-} overlay_core_segment;
+} fadrinzo_segment;
 
 /* A side of a polygon, which winds for the subject, or a step of a line, which has a mask. */
 typedef struct {
@@ -31,7 +31,7 @@ typedef struct {
     int32_t subj;
     /* 2 for a line from the first end to the second, 1 for one that runs back, 3 for both, 0 for none. */
     uint8_t mask;
-} overlay_core_line;
+} fadrinzo_line;
 
 /* A link of a graph. */
 typedef struct {
@@ -44,7 +44,7 @@ typedef struct {
     int32_t bx;
     int32_t by;
     uint8_t fill;
-} overlay_core_link;
+} fadrinzo_link;
 
 /* What a call is set to. */
 typedef struct {
@@ -61,7 +61,7 @@ typedef struct {
     /* Where overlays of contours put crossings that are no whole points: 0 for snap rounding, else pair by pair, as
        upstream does. Segments and lines are split pair by pair, whatever it is. */
     uint8_t rounding;
-} overlay_core_settings;
+} fadrinzo_settings;
 
 /* How much an engine keeps of its last result. */
 typedef struct {
@@ -87,7 +87,7 @@ typedef struct {
     bool has_changed;
     /* How many passes the last split made, up to u64::MAX. */
     uint64_t passes;
-} overlay_core_sizes;
+} fadrinzo_sizes;
 
 /* A number of 128 bits. */
 typedef struct {
@@ -95,33 +95,33 @@ typedef struct {
     uint64_t low;
     /* Its upper 64 bits. */
     uint64_t high;
-} overlay_core_words;
+} fadrinzo_words;
 
 /* What an overlay of contours reports of its run. */
 typedef struct {
     /* How many passes it made. */
-    overlay_core_words passes;
+    fadrinzo_words passes;
     /* How far these moved crossings at most, in x and in y, in halves of a unit. */
-    overlay_core_words reach;
-} overlay_core_report;
+    fadrinzo_words reach;
+} fadrinzo_report;
 
 /* A point. */
 typedef struct {
     int32_t x;
     int32_t y;
-} overlay_core_point;
+} fadrinzo_point;
 
 /* A number that a caller gives a segment. Parts have that of the whole, and of segments that are merged the first
    one's is kept. */
 typedef struct {
     uint64_t number;
-} overlay_core_tag;
+} fadrinzo_tag;
 
 /* A segment, and the number that is handed through to its links. */
 typedef struct {
-    overlay_core_segment segment;
-    overlay_core_tag tag;
-} overlay_core_tagged;
+    fadrinzo_segment segment;
+    fadrinzo_tag tag;
+} fadrinzo_tagged;
 
 /* Where two segments meet. */
 typedef struct {
@@ -134,128 +134,138 @@ typedef struct {
     /* Where all ends lie on one line, those that lie strictly inside the other segment: a sum of 1 and 2 for the
        target's, 4 and 8 for the other's; else 0. */
     uint8_t mask;
-} overlay_core_cross;
+} fadrinzo_cross;
 
 /* The place of an engine. It may go to another thread, for one call at a time. */
 typedef struct {
     void *at;
-} overlay_core_handle;
+} fadrinzo_handle;
 
 /* Makes an engine, in an empty handle. Returns whether there was memory. */
-bool overlay_c_new(overlay_core_handle *handle, uint32_t snap_limit);
+bool overlay_c_new(fadrinzo_handle *handle, uint32_t snap_limit);
 
 /* Frees the engine of a handle, which is empty then. */
-void overlay_c_free(overlay_core_handle *handle);
+void overlay_c_free(fadrinzo_handle *handle);
 
 /* The overlay of the segments that records describe, by the rule of a code (overlay_rule) and the engine that the
    settings name. Returns 0 where it is done, 1 where memory was refused, 2 where a count left the range, and 3
    where the segments may not be split with that engine. */
-uint8_t overlay_c_overlay(overlay_core_handle *handle, const overlay_core_segment *given, size_t given_len, const overlay_core_settings *settings, uint8_t rule, bool walks);
+uint8_t overlay_c_overlay(fadrinzo_handle *handle, const fadrinzo_segment *given, size_t given_len, const fadrinzo_settings *settings, uint8_t rule, bool walks);
 
 /* The overlay of the segments that records describe, with the data of each link, and without walks. A part of a
    segment has its data; of segments on one pair of ends the first one's is kept. Returns as overlay_c_overlay does. */
-uint8_t overlay_c_overlay_with_data(overlay_core_handle *handle, const overlay_core_tagged *given, size_t given_len, const overlay_core_settings *settings, uint8_t rule);
+uint8_t overlay_c_overlay_with_data(fadrinzo_handle *handle, const fadrinzo_tagged *given, size_t given_len, const fadrinzo_settings *settings, uint8_t rule);
 
-/* The split of the segments that records describe. Returns as overlay_c_overlay does. */
-uint8_t overlay_c_split(overlay_core_handle *handle, const overlay_core_segment *given, size_t given_len, const overlay_core_settings *settings);
+/* The split of the segments that records describe, without a graph. Returns as overlay_c_overlay does. */
+uint8_t overlay_c_split(fadrinzo_handle *handle, const fadrinzo_segment *given, size_t given_len, const fadrinzo_settings *settings);
 
 /* The graph of all of the arrangement that overlay_c_split left where it returned 0: a link for each segment, in
    their order. The links are written to records, as many as the segments of overlay_c_sizes; the engine keeps the
-   nodes, which overlay_c_nodes copies out, and no links. Of the settings it takes the strategy and the fill rule.
-   Returns 0 where it is done, 1 where memory was refused, and 2 where a winding above a segment leaves the range.
-   The arrangement stays. After 1 and 2 nothing is promised of records and nodes. */
-uint8_t overlay_c_build(overlay_core_handle *handle, const overlay_core_settings *settings, overlay_core_link *links, size_t links_len);
+   nodes, which overlay_c_nodes copies out, and no links or walks. Of the settings it takes the strategy and the
+   fill rule. What the engine keeps has to be an arrangement: that of an overlay_c_split that returned 0, without
+   another call that was given segments since. Returns 0 where it is done, 1 where memory was refused, and 2 where a
+   winding above a segment leaves the range. The arrangement stays. After 1 and 2 nothing is promised of records and
+   nodes. */
+uint8_t overlay_c_build(fadrinzo_handle *handle, const fadrinzo_settings *settings, fadrinzo_link *links, size_t links_len);
 
-/* The join of the segments that records describe, with the engine that the code of a width names, as in
-   SettingsRecord. Returns as overlay_c_overlay does. After a refusal the list is empty. */
-uint8_t overlay_c_join(overlay_core_handle *handle, const overlay_core_segment *given, size_t given_len, uint8_t width);
+/* The join of the segments that records describe, without a graph, with the engine that the code of a width names,
+   as in SettingsRecord. Returns as overlay_c_overlay does. After a refusal the list is empty. */
+uint8_t overlay_c_join(fadrinzo_handle *handle, const fadrinzo_segment *given, size_t given_len, uint8_t width);
 
-/* The parts of lines that a clip rule keeps. Returns as overlay_c_overlay does. */
-uint8_t overlay_c_clip(overlay_core_handle *handle, const overlay_core_line *given, size_t given_len, const overlay_core_settings *settings, bool invert, bool boundary_included);
+/* The parts of lines that a clip rule keeps. The arrangement of segments stays, and no walks are kept. Returns as
+   overlay_c_overlay does. */
+uint8_t overlay_c_clip(fadrinzo_handle *handle, const fadrinzo_line *given, size_t given_len, const fadrinzo_settings *settings, bool invert, bool boundary_included);
 
 /* Copies a contour behind the others of the subject, where the shape's code is 0, or else of the clip. Returns 0
    where it is added; else nothing is: 1 where memory was refused, 4 where a point is out of range. */
-uint8_t overlay_c_add_contour(overlay_core_handle *handle, const overlay_core_point *contour, size_t contour_len, uint8_t shape);
+uint8_t overlay_c_add_contour(fadrinzo_handle *handle, const fadrinzo_point *contour, size_t contour_len, uint8_t shape);
 
 /* The overlay of the contours that were added, as contours that have it on their left: outer boundaries run
    counterclockwise, and holes clockwise. Returns 0 where it is done, 1 where memory was refused, and 2 where a
    count left the range. The contours that were added stay. Crossings are rounded as the settings say: by snap
    rounding, or pair by pair, in passes, the first 256 of them snapping, whatever the limit of the engine is.
    Coordinates have 32 bits, whatever engine the settings name. */
-uint8_t overlay_c_polygons(overlay_core_handle *handle, const overlay_core_settings *settings, uint8_t rule);
+uint8_t overlay_c_polygons(fadrinzo_handle *handle, const fadrinzo_settings *settings, uint8_t rule);
 
 /* The overlay of the contours that were added, in shapes: each an outer boundary, followed by its holes, whose
    contours come to no point twice. Returns as overlay_c_polygons does, under the same settings. The contours that
    were added stay. */
-uint8_t overlay_c_shapes(overlay_core_handle *handle, const overlay_core_settings *settings, uint8_t rule);
+uint8_t overlay_c_shapes(fadrinzo_handle *handle, const fadrinzo_settings *settings, uint8_t rule);
 
 /* The overlays of the contours that were added by several rules, each as of overlay_c_polygons, in the order of the
    codes. They are kept as contours, rule by rule; overlay_c_shape_lengths then copies out how many each rule has.
    Returns as overlay_c_polygons does, under the same settings. The contours that were added stay. */
-uint8_t overlay_c_polygons_by_rules(overlay_core_handle *handle, const overlay_core_settings *settings, const uint8_t *rules, size_t rules_len);
+uint8_t overlay_c_polygons_by_rules(fadrinzo_handle *handle, const fadrinzo_settings *settings, const uint8_t *rules, size_t rules_len);
 
 /* Keeps the arrangement of the contours that were added, split and swept once, from which
    overlay_c_arranged_contours and overlay_c_arranged_shapes make overlays by any rules. Returns as
    overlay_c_polygons does, under the same settings. The contours that were added stay, and so does what
    overlay_c_report returns. Where it is refused, the arrangement that was kept before stays. */
-uint8_t overlay_c_arrange(overlay_core_handle *handle, const overlay_core_settings *settings);
+uint8_t overlay_c_arrange(fadrinzo_handle *handle, const fadrinzo_settings *settings);
 
 /* The overlay by a rule of the contours that are arranged, as overlay_c_polygons keeps it; where only corners are
    wanted, without the points at which a contour goes straight on. Returns 0 where it is done, 1 where memory was
    refused, and 3 where no contours were arranged. The arrangement stays. */
-uint8_t overlay_c_arranged_contours(overlay_core_handle *handle, uint8_t rule, bool corners);
+uint8_t overlay_c_arranged_contours(fadrinzo_handle *handle, uint8_t rule, bool corners);
 
 /* The overlay by a rule of the contours that are arranged, in shapes, as overlay_c_shapes keeps it; where only
    corners are wanted, without the points at which a contour goes straight on. Returns as
    overlay_c_arranged_contours does. The arrangement stays. */
-uint8_t overlay_c_arranged_shapes(overlay_core_handle *handle, uint8_t rule, bool corners);
+uint8_t overlay_c_arranged_shapes(fadrinzo_handle *handle, uint8_t rule, bool corners);
 
 /* Where a point lies with respect to the contours of a shape that were added, by the code of a fill rule: 0 for
    inside, 1 for on the boundary, which is on a step of a contour, 2 for outside, and 4 where the point is out of
    range. */
-uint8_t overlay_c_locate(overlay_core_handle *handle, const overlay_core_point *point, uint8_t shape, uint8_t fill);
+uint8_t overlay_c_locate(fadrinzo_handle *handle, const fadrinzo_point *point, uint8_t shape, uint8_t fill);
 
 /* What the last overlay of contours, in shapes or not, reports of its run: how many passes it made, and how far
    these moved edges. What such an overlay leaves holds at every place that is farther than this from the edges of
    the contours that it was given. Both are 0 at first, and nothing is promised of them after an overlay that was
    refused. */
-overlay_core_report overlay_c_report(overlay_core_handle *handle);
+fadrinzo_report overlay_c_report(fadrinzo_handle *handle);
+
+/* What the arrangement that is kept reports of its run: how many passes its split made, and how far these moved
+   edges. What overlay_c_arranged_contours and overlay_c_arranged_shapes leave holds at every point that is farther
+   than this from the edges of the contours that were arranged. Both are 0 where no contours are arranged. */
+fadrinzo_report overlay_c_arranged_report(fadrinzo_handle *handle);
 
 /* Drops the contours that were added. */
-void overlay_c_clear(overlay_core_handle *handle);
+void overlay_c_clear(fadrinzo_handle *handle);
 
 /* Where a target and another segment meet, with a squared radius within which a crossing is moved to an end, and,
-   where all ends lie on one line, which of them lie strictly inside the other segment. The counts do not matter. */
-overlay_core_cross overlay_c_cross(const overlay_core_segment *target, const overlay_core_segment *other, int64_t radius_squared);
+   where all ends lie on one line, which of them lie strictly inside the other segment. The counts do not matter.
+   All ends have to be in range, the two ends of each segment have to differ, and the squared radius has to be at
+   least 1. */
+fadrinzo_cross overlay_c_cross(const fadrinzo_segment *target, const fadrinzo_segment *other, int64_t radius_squared);
 
 /* How much the engine keeps of its last result. */
-overlay_core_sizes overlay_c_sizes(overlay_core_handle *handle);
+fadrinzo_sizes overlay_c_sizes(fadrinzo_handle *handle);
 
 /* Copies the arrangement out. */
-void overlay_c_segments(overlay_core_handle *handle, overlay_core_segment *out, size_t out_len);
+void overlay_c_segments(fadrinzo_handle *handle, fadrinzo_segment *out, size_t out_len);
 
 /* Copies the arrangement of polygons and lines out. */
-void overlay_c_lines(overlay_core_handle *handle, overlay_core_line *out, size_t out_len);
+void overlay_c_lines(fadrinzo_handle *handle, fadrinzo_line *out, size_t out_len);
 
 /* Copies the links out. */
-void overlay_c_links(overlay_core_handle *handle, overlay_core_link *out, size_t out_len);
+void overlay_c_links(fadrinzo_handle *handle, fadrinzo_link *out, size_t out_len);
 
 /* Copies the data of links out: that of the last overlay with data, one for each of its links. */
-void overlay_c_link_data(overlay_core_handle *handle, overlay_core_tag *out, size_t out_len);
+void overlay_c_link_data(fadrinzo_handle *handle, fadrinzo_tag *out, size_t out_len);
 
 /* Copies out how many links meet at each node, and the indexes of these links, node by node. */
-void overlay_c_nodes(overlay_core_handle *handle, size_t *degrees, size_t degrees_len, size_t *indexes, size_t indexes_len);
+void overlay_c_nodes(fadrinzo_handle *handle, size_t *degrees, size_t degrees_len, size_t *indexes, size_t indexes_len);
 
 /* Copies out how many links each walk has, and the indexes of these links, walk by walk. */
-void overlay_c_walks(overlay_core_handle *handle, size_t *lengths, size_t lengths_len, size_t *indexes, size_t indexes_len);
+void overlay_c_walks(fadrinzo_handle *handle, size_t *lengths, size_t lengths_len, size_t *indexes, size_t indexes_len);
 
 /* Copies out how many points each contour of the last overlay of contours has, in shapes or not, and these points,
    contour by contour, those of shapes shape by shape. */
-void overlay_c_contours(overlay_core_handle *handle, size_t *lengths, size_t lengths_len, overlay_core_point *points, size_t points_len);
+void overlay_c_contours(fadrinzo_handle *handle, size_t *lengths, size_t lengths_len, fadrinzo_point *points, size_t points_len);
 
 /* Copies out how many contours each shape of the last overlay of contours has, or each rule where it was by several
    rules: of none where it was neither. */
-void overlay_c_shape_lengths(overlay_core_handle *handle, size_t *out, size_t out_len);
+void overlay_c_shape_lengths(fadrinzo_handle *handle, size_t *out, size_t out_len);
 
 #ifdef __cplusplus
 }

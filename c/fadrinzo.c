@@ -1,0 +1,248 @@
+/* The calls of fadrinzo.h over the exports of the proved library: arguments are tested, and results are kept. */
+#include "fadrinzo.h"
+
+#include "fadrinzo_exports.h"
+
+#include <stdlib.h>
+
+struct fadrinzo {
+    fadrinzo_handle handle;
+    fadrinzo_result result;
+    fadrinzo_point *points;
+    size_t *contour_starts;
+    size_t *shape_starts;
+};
+
+uint32_t fadrinzo_version(void)
+{
+    return FADRINZO_VERSION;
+}
+
+const char *fadrinzo_text(int status)
+{
+    switch (status) {
+    case FADRINZO_OK: return "done";
+    case FADRINZO_NO_MEMORY: return "there is not enough memory";
+    case FADRINZO_COUNT_OUT_OF_RANGE: return "the contours wind more than 2147483647 times around a point";
+    case FADRINZO_POINT_OUT_OF_RANGE: return "a coordinate is outside of -1073741824 to 1073741823";
+    case FADRINZO_BAD_ARGUMENT: return "a pointer is null, no contours are arranged, or there is no such shape, rule or fill rule";
+    default: return "there is no such status";
+    }
+}
+
+static void drop_result(fadrinzo *overlay)
+{
+    free(overlay->points);
+    free(overlay->contour_starts);
+    free(overlay->shape_starts);
+    overlay->points = NULL;
+    overlay->contour_starts = overlay->shape_starts = NULL;
+    overlay->result = (fadrinzo_result){0};
+}
+
+fadrinzo *fadrinzo_new(void)
+{
+    fadrinzo *overlay = calloc(1, sizeof *overlay);
+    if (overlay && !overlay_c_new(&overlay->handle, 256)) {
+        free(overlay);
+        return NULL;
+    }
+    return overlay;
+}
+
+void fadrinzo_free(fadrinzo *overlay)
+{
+    if (overlay) {
+        drop_result(overlay);
+        overlay_c_free(&overlay->handle);
+        free(overlay);
+    }
+}
+
+fadrinzo_status fadrinzo_clear(fadrinzo *overlay)
+{
+    if (!overlay)
+        return FADRINZO_BAD_ARGUMENT;
+    drop_result(overlay);
+    overlay_c_clear(&overlay->handle);
+    return FADRINZO_OK;
+}
+
+static int is_shape(int shape)
+{
+    return shape == FADRINZO_SUBJECT || shape == FADRINZO_CLIP;
+}
+
+fadrinzo_status fadrinzo_add_contour(fadrinzo *overlay, int shape, const int32_t *xy, size_t points)
+{
+    if (!overlay || (!xy && points) || !is_shape(shape))
+        return FADRINZO_BAD_ARGUMENT;
+    return (fadrinzo_status)overlay_c_add_contour(&overlay->handle, (const fadrinzo_point *)xy, points, (uint8_t)shape);
+}
+
+/* Makes starts of so many lengths, with one element of room behind them. */
+static void sum_up(size_t *lengths, size_t count)
+{
+    size_t start = 0;
+    for (size_t i = 0; i <= count; i++) {
+        size_t length = i < count ? lengths[i] : 0;
+        lengths[i] = start;
+        start += length;
+    }
+}
+
+/* A list of so many elements and one more, or null. */
+static void *room(size_t count, size_t size)
+{
+    return count < SIZE_MAX / size ? malloc((count + 1) * size) : NULL;
+}
+
+/* Copies the result out of the engine, with how far edges were moved. */
+static fadrinzo_status keep_result(fadrinzo *overlay, uint64_t reach)
+{
+    fadrinzo_sizes sizes = overlay_c_sizes(&overlay->handle);
+    overlay->points = room(sizes.contour_points, sizeof *overlay->points);
+    overlay->contour_starts = room(sizes.contours, sizeof *overlay->contour_starts);
+    overlay->shape_starts = room(sizes.shapes, sizeof *overlay->shape_starts);
+    if (!overlay->points || !overlay->contour_starts || !overlay->shape_starts) {
+        drop_result(overlay);
+        return FADRINZO_NO_MEMORY;
+    }
+    overlay_c_contours(&overlay->handle, overlay->contour_starts, sizes.contours, overlay->points, sizes.contour_points);
+    overlay_c_shape_lengths(&overlay->handle, overlay->shape_starts, sizes.shapes);
+    sum_up(overlay->contour_starts, sizes.contours);
+    sum_up(overlay->shape_starts, sizes.shapes);
+    overlay->result = (fadrinzo_result){
+        .xy = &overlay->points->x,
+        .contour_starts = overlay->contour_starts,
+        .shape_starts = overlay->shape_starts,
+        .points = sizes.contour_points,
+        .contours = sizes.contours,
+        .shapes = sizes.shapes,
+        .reach = reach,
+    };
+    return FADRINZO_OK;
+}
+
+/* Copies the result of a call that reports how far edges were moved. */
+static fadrinzo_status keep_reported(fadrinzo *overlay)
+{
+    return keep_result(overlay, overlay_c_report(&overlay->handle).reach.low);
+}
+
+/* Drops the result, if there is an overlay: one that fails leaves none. */
+static fadrinzo_status refuse(fadrinzo *overlay)
+{
+    if (overlay)
+        drop_result(overlay);
+    return FADRINZO_BAD_ARGUMENT;
+}
+
+static int is_rule(int rule)
+{
+    return (rule >= FADRINZO_RULE_SUBJECT && rule <= FADRINZO_RULE_XOR)
+        || (rule >= FADRINZO_RULE_TABLE && rule < FADRINZO_RULE_TABLE + 16);
+}
+
+static int is_fill_rule(int fill_rule)
+{
+    return fill_rule >= FADRINZO_FILL_EVEN_ODD && fill_rule <= FADRINZO_FILL_NEGATIVE;
+}
+
+/* The strategy Auto, snap rounding. */
+static fadrinzo_settings settings_for(int fill_rule)
+{
+    return (fadrinzo_settings){.progression = 1, .strategy = 3, .fill_rule = (uint8_t)fill_rule};
+}
+
+typedef uint8_t overlay_call(fadrinzo_handle *handle, const fadrinzo_settings *settings, uint8_t rule);
+
+static fadrinzo_status make(fadrinzo *overlay, int rule, int fill_rule, overlay_call *call)
+{
+    if (!overlay || !is_rule(rule) || !is_fill_rule(fill_rule))
+        return refuse(overlay);
+    drop_result(overlay);
+    fadrinzo_settings settings = settings_for(fill_rule);
+    fadrinzo_status status = (fadrinzo_status)call(&overlay->handle, &settings, (uint8_t)rule);
+    return status == FADRINZO_OK ? keep_reported(overlay) : status;
+}
+
+fadrinzo_status fadrinzo_overlay(fadrinzo *overlay, int rule, int fill_rule)
+{
+    return make(overlay, rule, fill_rule, overlay_c_polygons);
+}
+
+fadrinzo_status fadrinzo_overlay_shapes(fadrinzo *overlay, int rule, int fill_rule)
+{
+    return make(overlay, rule, fill_rule, overlay_c_shapes);
+}
+
+fadrinzo_status fadrinzo_overlay_by_rules(fadrinzo *overlay, const int *rules, size_t count, int fill_rule)
+{
+    if (!overlay || (!rules && count) || !is_fill_rule(fill_rule))
+        return refuse(overlay);
+    for (size_t i = 0; i < count; i++)
+        if (!is_rule(rules[i]))
+            return refuse(overlay);
+    drop_result(overlay);
+    uint8_t *codes = room(count, sizeof *codes);
+    if (!codes)
+        return FADRINZO_NO_MEMORY;
+    for (size_t i = 0; i < count; i++)
+        codes[i] = (uint8_t)rules[i];
+    fadrinzo_settings settings = settings_for(fill_rule);
+    fadrinzo_status status = (fadrinzo_status)overlay_c_polygons_by_rules(&overlay->handle, &settings, codes, count);
+    free(codes);
+    return status == FADRINZO_OK ? keep_reported(overlay) : status;
+}
+
+fadrinzo_status fadrinzo_arrange(fadrinzo *overlay, int fill_rule)
+{
+    if (!overlay || !is_fill_rule(fill_rule))
+        return FADRINZO_BAD_ARGUMENT;
+    fadrinzo_settings settings = settings_for(fill_rule);
+    return (fadrinzo_status)overlay_c_arrange(&overlay->handle, &settings);
+}
+
+typedef uint8_t arranged_call(fadrinzo_handle *handle, uint8_t rule, bool corners);
+
+/* What the exports return where no contours were arranged. */
+enum { NOT_ARRANGED = 3 };
+
+static fadrinzo_status make_arranged(fadrinzo *overlay, int rule, int corners, arranged_call *call)
+{
+    if (!overlay || !is_rule(rule))
+        return refuse(overlay);
+    drop_result(overlay);
+    uint8_t status = call(&overlay->handle, (uint8_t)rule, corners != 0);
+    if (status == NOT_ARRANGED)
+        return FADRINZO_BAD_ARGUMENT;
+    if (status != FADRINZO_OK)
+        return (fadrinzo_status)status;
+    return keep_result(overlay, overlay_c_arranged_report(&overlay->handle).reach.low);
+}
+
+fadrinzo_status fadrinzo_arranged(fadrinzo *overlay, int rule, int corners)
+{
+    return make_arranged(overlay, rule, corners, overlay_c_arranged_contours);
+}
+
+fadrinzo_status fadrinzo_arranged_shapes(fadrinzo *overlay, int rule, int corners)
+{
+    return make_arranged(overlay, rule, corners, overlay_c_arranged_shapes);
+}
+
+fadrinzo_location fadrinzo_locate(fadrinzo *overlay, int shape, int fill_rule, int32_t x, int32_t y)
+{
+    if (!overlay || !is_shape(shape) || !is_fill_rule(fill_rule))
+        return FADRINZO_LOCATION_BAD_ARGUMENT;
+    fadrinzo_point point = {.x = x, .y = y};
+    uint8_t code = overlay_c_locate(&overlay->handle, &point, (uint8_t)shape, (uint8_t)fill_rule);
+    /* a point out of range lies outside of all contours */
+    return code > FADRINZO_OUTSIDE ? FADRINZO_OUTSIDE : (fadrinzo_location)code;
+}
+
+fadrinzo_result fadrinzo_get(const fadrinzo *overlay)
+{
+    return overlay ? overlay->result : (fadrinzo_result){0};
+}

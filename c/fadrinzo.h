@@ -1,0 +1,134 @@
+/* Overlays of polygons with whole coordinates. Every argument of these calls is tested. Below them lie the proved exports of
+   libfadrinzo_exports.a, which fadrinzo_exports.h declares, and which test nothing. */
+#ifndef FADRINZO_H
+#define FADRINZO_H
+
+#include <stddef.h>
+#include <stdint.h>
+
+#ifdef __cplusplus
+extern "C" {
+#endif
+
+/* The version of these declarations. fadrinzo_version returns that of the library. */
+#define FADRINZO_VERSION 1
+
+/* The least and the greatest coordinate. */
+#define FADRINZO_MIN_COORD (-1073741824)
+#define FADRINZO_MAX_COORD 1073741823
+
+/* What a call returns. After anything but FADRINZO_OK the overlay may be used again. */
+typedef enum {
+    FADRINZO_OK = 0,
+    FADRINZO_NO_MEMORY = 1,
+    FADRINZO_COUNT_OUT_OF_RANGE = 2,
+    FADRINZO_POINT_OUT_OF_RANGE = 4,
+    FADRINZO_BAD_ARGUMENT = 5
+} fadrinzo_status;
+
+/* The shape to which a contour is added. */
+enum { FADRINZO_SUBJECT = 0, FADRINZO_CLIP = 1 };
+
+/* Which points an overlay keeps, by whether they are in the subject and in the clip. */
+enum {
+    FADRINZO_RULE_SUBJECT = 0,
+    FADRINZO_RULE_CLIP = 1,
+    FADRINZO_RULE_INTERSECT = 2,
+    FADRINZO_RULE_UNION = 3,
+    FADRINZO_RULE_DIFFERENCE = 4,
+    FADRINZO_RULE_INVERSE_DIFFERENCE = 5,
+    FADRINZO_RULE_XOR = 6,
+    /* and, plus a table of 0 to 15, those that the table keeps: bit s + 2 c is for points with s and c, 1 for inside */
+    FADRINZO_RULE_TABLE = 16
+};
+
+/* Which points are inside contours, by how often these wind around them. */
+enum {
+    FADRINZO_FILL_EVEN_ODD = 0,
+    FADRINZO_FILL_NON_ZERO = 1,
+    FADRINZO_FILL_POSITIVE = 2,
+    FADRINZO_FILL_NEGATIVE = 3
+};
+
+/* Where a point lies. */
+typedef enum {
+    FADRINZO_INSIDE = 0,
+    FADRINZO_ON_BOUNDARY = 1,
+    FADRINZO_OUTSIDE = 2,
+    FADRINZO_LOCATION_BAD_ARGUMENT = 5
+} fadrinzo_location;
+
+/* The contours of a subject and of a clip, and the result of their last overlay. Of use to one thread at a time. */
+typedef struct fadrinzo fadrinzo;
+
+/* The result of the last overlay: points as x, y, x, y, .., contour after contour, and contours shape after shape. Contour i has the
+   points from contour_starts[i] to before contour_starts[i + 1], and shape i the contours from shape_starts[i] to before
+   shape_starts[i + 1], its outer boundary first. There are no shapes after fadrinzo_overlay. All is valid until the next call
+   on the overlay but fadrinzo_locate. */
+typedef struct {
+    const int32_t *xy;
+    const size_t *contour_starts;
+    const size_t *shape_starts;
+    size_t points;
+    size_t contours;
+    size_t shapes;
+    /* How far edges were moved at most, in x and in y, in halves of a unit: by this overlay, or by the arrangement from which it comes.
+       0 if no two edges cross at a point without whole coordinates, and never more than 1. */
+    uint64_t reach;
+} fadrinzo_result;
+
+/* The version of the library. */
+uint32_t fadrinzo_version(void);
+
+/* A sentence for a status. */
+const char *fadrinzo_text(int status);
+
+/* Makes an overlay of no contours. Null if there is no memory. */
+fadrinzo *fadrinzo_new(void);
+
+/* Frees an overlay. Null is allowed. */
+void fadrinzo_free(fadrinzo *overlay);
+
+/* Drops the contours and the result. */
+fadrinzo_status fadrinzo_clear(fadrinzo *overlay);
+
+/* Adds a contour of so many points, each x and y, to the subject or to the clip. Under non-zero two contours that overlap and run in
+   opposite directions cancel. Under even-odd the direction changes the region by no more than half a unit, but it may change points:
+   edges with the same two ends cancel before anything is cut if they run against one another, and cut others if they run alike. */
+fadrinzo_status fadrinzo_add_contour(fadrinzo *overlay, int shape, const int32_t *xy, size_t points);
+
+/* Makes the overlay of the contours that were added, as contours: outer boundaries counterclockwise, holes clockwise. The contours
+   that were added stay. */
+fadrinzo_status fadrinzo_overlay(fadrinzo *overlay, int rule, int fill_rule);
+
+/* The same in shapes: each an outer boundary, followed by its holes, all of them simple polygons. */
+fadrinzo_status fadrinzo_overlay_shapes(fadrinzo *overlay, int rule, int fill_rule);
+
+/* The overlays by so many rules, in their order, each as of fadrinzo_overlay. The contours are split once. In the result the
+   contours of rule i are those of shape i, from shape_starts[i] to before shape_starts[i + 1]. */
+fadrinzo_status fadrinzo_overlay_by_rules(fadrinzo *overlay, const int *rules, size_t count, int fill_rule);
+
+/* Splits and sweeps the contours that were added, under a fill rule, so that overlays by any rules need no further split. The contours and
+   the result stay. After a failure, or if contours are added or dropped, the last arrangement stays. */
+fadrinzo_status fadrinzo_arrange(fadrinzo *overlay, int fill_rule);
+
+/* The overlay by a rule of the contours as they were arranged last, as of fadrinzo_overlay. If corners is not 0, points at which a
+   contour goes straight on are left out. The reach is that of the arrangement. FADRINZO_BAD_ARGUMENT if no contours were arranged. */
+fadrinzo_status fadrinzo_arranged(fadrinzo *overlay, int rule, int corners);
+
+/* The same in shapes, as of fadrinzo_overlay_shapes. */
+fadrinzo_status fadrinzo_arranged_shapes(fadrinzo *overlay, int rule, int corners);
+
+/* Where a point lies with respect to the contours of a shape that were added: on the boundary if it lies on a step of one of them, else
+   inside or outside by the fill rule. FADRINZO_LOCATION_BAD_ARGUMENT if the overlay is null, or there is no such shape or fill rule. */
+fadrinzo_location fadrinzo_locate(fadrinzo *overlay, int shape, int fill_rule, int32_t x, int32_t y);
+
+/* The result of the last overlay. Nothing after one that failed, for whatever reason: a wrong argument, a refused growth, a count. A call that
+   makes no overlay leaves it, but for fadrinzo_clear. */
+fadrinzo_result fadrinzo_get(const fadrinzo *overlay);
+
+#ifdef __cplusplus
+}
+#endif
+
+#endif

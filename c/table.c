@@ -1,0 +1,399 @@
+/* One table of all rules, truth tables, fill rules and refusals, over two inputs. What a call has to make is found from definitions: how
+   often contours wind around the middle of each unit square, which windings a fill rule counts as inside, and what a rule says of
+   inside and outside. Prints the first difference, and ends with 1. */
+#include "fadrinzo.h"
+
+#include <stdio.h>
+#include <stdlib.h>
+#include <string.h>
+
+#define CHECK(condition, ...) \
+    do { \
+        if (!(condition)) { \
+            printf("%s:%d: %s: ", __FILE__, __LINE__, #condition); \
+            printf(__VA_ARGS__); \
+            puts(""); \
+            exit(1); \
+        } \
+    } while (0)
+
+enum { POINTS = 4, CONTOURS = 4, SPAN = 24, NAMED = 7, TABLES = 16, RULES = NAMED + TABLES, FILLS = 4 };
+
+/* A contour of a shape; of so many points. */
+typedef struct {
+    int shape;
+    size_t points;
+    int32_t xy[2 * POINTS];
+} contour;
+
+/* Contours that wind -1, 0, 1 and 2 times for the subject, and for the clip, in all pairs of signs; they cross at whole points. */
+static const contour squares[CONTOURS + 2] = {
+    {FADRINZO_SUBJECT, 4, {0, 0, 12, 0, 12, 12, 0, 12}},
+    {FADRINZO_SUBJECT, 4, {2, 2, 10, 2, 10, 10, 2, 10}},
+    {FADRINZO_SUBJECT, 4, {8, 6, 8, 20, 20, 20, 20, 6}},
+    {FADRINZO_CLIP, 4, {4, 1, 18, 1, 18, 9, 4, 9}},
+    {FADRINZO_CLIP, 4, {6, 3, 15, 3, 15, 8, 6, 8}},
+    {FADRINZO_CLIP, 4, {1, 5, 1, 17, 14, 17, 14, 5}},
+};
+
+/* Two triangles whose edges cross at (12.5, 12.5), which snap rounding moves by half a unit. */
+static const contour triangles[2] = {
+    {FADRINZO_SUBJECT, 3, {0, 0, 25, 25, 0, 25}},
+    {FADRINZO_CLIP, 3, {0, 25, 25, 0, 25, 25}},
+};
+
+/* How often a contour winds around (x + 1/2, y + 1/2), which lies on none of its steps. */
+static int winding(const int32_t *xy, size_t points, int x, int y)
+{
+    int sum = 0;
+    for (size_t i = 0; i < points; i++) {
+        size_t next = (i + 1) % points;
+        int64_t ax = 2 * xy[2 * i] - (2 * x + 1), ay = 2 * xy[2 * i + 1] - (2 * y + 1);
+        int64_t bx = 2 * xy[2 * next] - (2 * x + 1), by = 2 * xy[2 * next + 1] - (2 * y + 1);
+        int64_t turn = ax * by - ay * bx;
+        sum += (ay <= 0 && by > 0 && turn > 0) - (by <= 0 && ay > 0 && turn < 0);
+    }
+    return sum;
+}
+
+static int is_inside(int fill_rule, int winds)
+{
+    switch (fill_rule) {
+    case FADRINZO_FILL_EVEN_ODD: return winds % 2 != 0;
+    case FADRINZO_FILL_NON_ZERO: return winds != 0;
+    case FADRINZO_FILL_POSITIVE: return winds > 0;
+    default: return winds < 0;
+    }
+}
+
+/* What the rule at an index says of a point inside the subject or not, and inside the clip or not. */
+static int holds(int index, int s, int c)
+{
+    switch (index) {
+    case 0: return s;
+    case 1: return c;
+    case 2: return s && c;
+    case 3: return s || c;
+    case 4: return s && !c;
+    case 5: return c && !s;
+    case 6: return s != c;
+    default: return (index - NAMED) / (1 << (s + 2 * c)) % 2;
+    }
+}
+
+static int code_of(int index)
+{
+    static const int named[NAMED] = {
+        FADRINZO_RULE_SUBJECT, FADRINZO_RULE_CLIP, FADRINZO_RULE_INTERSECT, FADRINZO_RULE_UNION,
+        FADRINZO_RULE_DIFFERENCE, FADRINZO_RULE_INVERSE_DIFFERENCE, FADRINZO_RULE_XOR,
+    };
+    return index < NAMED ? named[index] : FADRINZO_RULE_TABLE + index - NAMED;
+}
+
+/* Whether a unit square has no point of a given edge within half a unit of its middle: so in the squares, and in the triangles but
+   along their slanted edges. */
+static int is_far(int is_exact, int x, int y)
+{
+    return is_exact || (abs(x - y) > 1 && abs(x + y - 24) > 1);
+}
+
+static const contour *given;
+static size_t given_count;
+static int given_is_exact;
+
+static int winding_of_given(int shape, int x, int y)
+{
+    int sum = 0;
+    for (size_t i = 0; i < given_count; i++)
+        sum += given[i].shape == shape ? winding(given[i].xy, given[i].points, x, y) : 0;
+    return sum;
+}
+
+/* Fails where contours from one to before another do not wind as the rule at an index says, once more or less for those that hold outside. */
+static void check_contours(fadrinzo_result found, size_t first, size_t end, int index, int fill_rule, const char *call)
+{
+    int outside = holds(index, 0, 0);
+    for (int x = -2; x < SPAN + 2; x++)
+        for (int y = -2; y < SPAN + 2; y++) {
+            if (!is_far(given_is_exact, x, y))
+                continue;
+            int s = is_inside(fill_rule, winding_of_given(FADRINZO_SUBJECT, x, y));
+            int c = is_inside(fill_rule, winding_of_given(FADRINZO_CLIP, x, y));
+            int winds = 0;
+            for (size_t i = first; i < end; i++)
+                winds += winding(found.xy + 2 * found.contour_starts[i], found.contour_starts[i + 1] - found.contour_starts[i], x, y);
+            CHECK(winds == holds(index, s, c) - outside, "%s, rule %d, fill %d, at %d %d: %d", call, index, fill_rule, x, y, winds);
+        }
+}
+
+/* Twice the area of a contour. */
+static int64_t doubled_area(fadrinzo_result found, size_t i)
+{
+    const int32_t *xy = found.xy + 2 * found.contour_starts[i];
+    size_t points = found.contour_starts[i + 1] - found.contour_starts[i];
+    int64_t sum = 0;
+    for (size_t k = 0; k < points; k++) {
+        size_t next = (k + 1) % points;
+        sum += (int64_t)xy[2 * k] * xy[2 * next + 1] - (int64_t)xy[2 * k + 1] * xy[2 * next];
+    }
+    return sum;
+}
+
+/* Of shapes the first contour is the boundary, and the others are holes, which run the other way. */
+static void check_shapes(fadrinzo_result found, int index, const char *call)
+{
+    CHECK(found.shape_starts[found.shapes] == found.contours && found.contour_starts[found.contours] == found.points, "%s, rule %d", call, index);
+    for (size_t shape = 0; shape < found.shapes && !holds(index, 0, 0); shape++)
+        for (size_t i = found.shape_starts[shape]; i < found.shape_starts[shape + 1]; i++)
+            CHECK((doubled_area(found, i) > 0) == (i == found.shape_starts[shape]), "%s, rule %d, shape %zu", call, index, shape);
+}
+
+/* Whether a contour goes straight on at a point. */
+static int has_collinear(fadrinzo_result found)
+{
+    for (size_t i = 0; i < found.contours; i++) {
+        const int32_t *xy = found.xy + 2 * found.contour_starts[i];
+        size_t points = found.contour_starts[i + 1] - found.contour_starts[i];
+        for (size_t k = 0; k < points; k++) {
+            const int32_t *a = xy + 2 * k, *b = xy + 2 * ((k + 1) % points), *c = xy + 2 * ((k + 2) % points);
+            if ((int64_t)(b[0] - a[0]) * (c[1] - b[1]) == (int64_t)(b[1] - a[1]) * (c[0] - b[0]))
+                return 1;
+        }
+    }
+    return 0;
+}
+
+static void check_result(fadrinzo *overlay, int index, int fill_rule, uint64_t reach, const char *call)
+{
+    fadrinzo_result found = fadrinzo_get(overlay);
+    check_contours(found, 0, found.contours, index, fill_rule, call);
+    CHECK(found.reach == reach, "%s, rule %d: reach %d", call, index, (int)found.reach);
+}
+
+/* All calls by the rule at an index. */
+static void check_rule(fadrinzo *overlay, int index, int fill_rule, uint64_t reach)
+{
+    int rule = code_of(index);
+    CHECK(fadrinzo_overlay(overlay, rule, fill_rule) == FADRINZO_OK, "rule %d", index);
+    check_result(overlay, index, fill_rule, reach, "overlay");
+    CHECK(fadrinzo_get(overlay).shapes == 0, "rule %d", index);
+    CHECK(fadrinzo_overlay_shapes(overlay, rule, fill_rule) == FADRINZO_OK, "rule %d", index);
+    check_result(overlay, index, fill_rule, reach, "shapes");
+    check_shapes(fadrinzo_get(overlay), index, "shapes");
+    for (int corners = 0; corners < 2; corners++) {
+        CHECK(fadrinzo_arranged(overlay, rule, corners) == FADRINZO_OK, "rule %d", index);
+        check_result(overlay, index, fill_rule, reach, "arranged");
+        CHECK(!corners || !has_collinear(fadrinzo_get(overlay)), "rule %d", index);
+        CHECK(fadrinzo_arranged_shapes(overlay, rule, corners) == FADRINZO_OK, "rule %d", index);
+        check_result(overlay, index, fill_rule, reach, "arranged shapes");
+        check_shapes(fadrinzo_get(overlay), index, "arranged shapes");
+        CHECK(!corners || !has_collinear(fadrinzo_get(overlay)), "rule %d", index);
+    }
+}
+
+/* All rules in one call: the contours of each are one shape of the result. */
+static void check_by_rules(fadrinzo *overlay, int fill_rule, uint64_t reach)
+{
+    int rules[RULES];
+    for (int index = 0; index < RULES; index++)
+        rules[index] = code_of(index);
+    CHECK(fadrinzo_overlay_by_rules(overlay, rules, RULES, fill_rule) == FADRINZO_OK, "fill %d", fill_rule);
+    fadrinzo_result found = fadrinzo_get(overlay);
+    CHECK(found.shapes == RULES && found.reach == reach, "fill %d", fill_rule);
+    for (int index = 0; index < RULES; index++)
+        check_contours(found, found.shape_starts[index], found.shape_starts[index + 1], index, fill_rule, "by rules");
+    CHECK(fadrinzo_overlay_by_rules(overlay, NULL, 0, fill_rule) == FADRINZO_OK, "no rules");
+    CHECK(fadrinzo_get(overlay).shapes == 0 && fadrinzo_get(overlay).contours == 0, "no rules");
+}
+
+/* A corner of each contour lies on the boundary, its neighbors to the sides as the windings say, as far as these are known. */
+static void check_locations(fadrinzo *overlay, int shape, int fill_rule)
+{
+    for (size_t i = 0; i < given_count; i++) {
+        const contour *it = &given[i];
+        int expected = it->shape == shape ? FADRINZO_ON_BOUNDARY : -1;
+        for (size_t k = 0; k < it->points && expected >= 0; k++)
+            CHECK((int)fadrinzo_locate(overlay, shape, fill_rule, it->xy[2 * k], it->xy[2 * k + 1]) == expected, "corner %zu of %zu", k, i);
+    }
+}
+
+static void add_all(fadrinzo *overlay, const contour *contours, size_t count)
+{
+    for (size_t i = 0; i < count; i++)
+        CHECK(fadrinzo_add_contour(overlay, contours[i].shape, contours[i].xy, contours[i].points) == FADRINZO_OK, "contour %zu", i);
+}
+
+static void check_input(const contour *contours, size_t count, int is_exact)
+{
+    given = contours;
+    given_count = count;
+    given_is_exact = is_exact;
+    uint64_t reach = is_exact ? 0 : 1;
+    fadrinzo *overlay = fadrinzo_new();
+    CHECK(overlay, "memory");
+    add_all(overlay, contours, count);
+    for (int fill_rule = 0; fill_rule < FILLS; fill_rule++) {
+        CHECK(fadrinzo_arrange(overlay, fill_rule) == FADRINZO_OK, "fill %d", fill_rule);
+        for (int index = 0; index < RULES; index++)
+            check_rule(overlay, index, fill_rule, reach);
+        check_by_rules(overlay, fill_rule, reach);
+        for (int shape = 0; shape < 2; shape++)
+            check_locations(overlay, shape, fill_rule);
+    }
+    CHECK(fadrinzo_clear(overlay) == FADRINZO_OK && fadrinzo_get(overlay).points == 0, "clear");
+    CHECK(fadrinzo_overlay(overlay, FADRINZO_RULE_UNION, 1) == FADRINZO_OK && fadrinzo_get(overlay).points == 0, "cleared");
+    fadrinzo_free(overlay);
+}
+
+static void check_reach(fadrinzo *overlay, fadrinzo_status status, uint64_t reach)
+{
+    CHECK(status == FADRINZO_OK && fadrinzo_get(overlay).reach == reach, "status %d, reach %d", status, (int)fadrinzo_get(overlay).reach);
+}
+
+/* What comes from an arrangement has its reach, whatever was overlaid before it was made, and since. */
+static void check_reach_of_arrangements(void)
+{
+    static const contour *const inputs[2] = {squares, triangles};
+    static const size_t counts[2] = {6, 2};
+    for (uint64_t reach = 0; reach < 2; reach++) {
+        uint64_t other = 1 - reach;
+        fadrinzo *overlay = fadrinzo_new();
+        CHECK(overlay, "memory");
+        add_all(overlay, inputs[other], counts[other]);
+        check_reach(overlay, fadrinzo_overlay(overlay, FADRINZO_RULE_XOR, FADRINZO_FILL_NON_ZERO), other);
+        CHECK(fadrinzo_clear(overlay) == FADRINZO_OK, "clear");
+        add_all(overlay, inputs[reach], counts[reach]);
+        CHECK(fadrinzo_arrange(overlay, FADRINZO_FILL_NON_ZERO) == FADRINZO_OK, "arrange");
+        check_reach(overlay, fadrinzo_arranged(overlay, FADRINZO_RULE_XOR, 0), reach);
+        check_reach(overlay, fadrinzo_arranged_shapes(overlay, FADRINZO_RULE_XOR, 1), reach);
+        CHECK(fadrinzo_clear(overlay) == FADRINZO_OK && fadrinzo_get(overlay).reach == 0, "clear");
+        add_all(overlay, inputs[other], counts[other]);
+        check_reach(overlay, fadrinzo_overlay(overlay, FADRINZO_RULE_XOR, FADRINZO_FILL_NON_ZERO), other);
+        check_reach(overlay, fadrinzo_arranged(overlay, FADRINZO_RULE_XOR, 1), reach);
+        check_reach(overlay, fadrinzo_arranged_shapes(overlay, FADRINZO_RULE_XOR, 0), reach);
+        fadrinzo_free(overlay);
+    }
+}
+
+/* Locations of the middles of unit squares, of contours at twice their size. */
+static void check_middles(void)
+{
+    fadrinzo *overlay = fadrinzo_new();
+    CHECK(overlay, "memory");
+    for (size_t i = 0; i < 6; i++) {
+        int32_t xy[8];
+        for (size_t k = 0; k < 8; k++)
+            xy[k] = 2 * squares[i].xy[k];
+        CHECK(fadrinzo_add_contour(overlay, squares[i].shape, xy, 4) == FADRINZO_OK, "contour %zu", i);
+    }
+    given = squares;
+    given_count = 6;
+    for (int shape = 0; shape < 2; shape++)
+        for (int fill_rule = 0; fill_rule < FILLS; fill_rule++)
+            for (int x = -2; x < SPAN; x++)
+                for (int y = -2; y < SPAN; y++) {
+                    int wanted = is_inside(fill_rule, winding_of_given(shape, x, y)) ? FADRINZO_INSIDE : FADRINZO_OUTSIDE;
+                    CHECK((int)fadrinzo_locate(overlay, shape, fill_rule, 2 * x + 1, 2 * y + 1) == wanted, "shape %d, fill %d, %d %d", shape, fill_rule, x, y);
+                }
+    fadrinzo_free(overlay);
+}
+
+/* The overlay has a result of one contour; a call that is refused leaves none. */
+static void check_drops(fadrinzo *overlay, fadrinzo_status found)
+{
+    CHECK(found == FADRINZO_BAD_ARGUMENT, "status %d", found);
+    fadrinzo_result none = fadrinzo_get(overlay);
+    CHECK(!none.xy && !none.points && !none.contours && !none.shapes && !none.reach, "a result is left");
+    CHECK(fadrinzo_overlay(overlay, FADRINZO_RULE_SUBJECT, 1) == FADRINZO_OK && fadrinzo_get(overlay).contours == 1, "afterwards");
+}
+
+static void check_codes(fadrinzo *overlay)
+{
+    static const int wrong_rules[] = {-1, 7, 8, 15, 32, 33, 256, 272, INT32_MIN, INT32_MAX}, wrong_fills[] = {-1, 4, 5, 256, 257, INT32_MAX};
+    check_drops(overlay, fadrinzo_arranged(overlay, 0, 0));
+    check_drops(overlay, fadrinzo_arranged_shapes(overlay, 0, 0));
+    CHECK(fadrinzo_arrange(overlay, 1) == FADRINZO_OK && fadrinzo_get(overlay).contours == 1, "arrange");
+    for (size_t i = 0; i < sizeof wrong_rules / sizeof *wrong_rules; i++) {
+        int rules[2] = {0, wrong_rules[i]};
+        check_drops(overlay, fadrinzo_overlay(overlay, wrong_rules[i], 1));
+        check_drops(overlay, fadrinzo_overlay_shapes(overlay, wrong_rules[i], 1));
+        check_drops(overlay, fadrinzo_overlay_by_rules(overlay, rules, 2, 1));
+        check_drops(overlay, fadrinzo_arranged(overlay, wrong_rules[i], 0));
+        check_drops(overlay, fadrinzo_arranged_shapes(overlay, wrong_rules[i], 1));
+    }
+    for (size_t i = 0; i < sizeof wrong_fills / sizeof *wrong_fills; i++) {
+        int rules[1] = {0}, fill_rule = wrong_fills[i];
+        check_drops(overlay, fadrinzo_overlay(overlay, 0, fill_rule));
+        check_drops(overlay, fadrinzo_overlay_shapes(overlay, 0, fill_rule));
+        check_drops(overlay, fadrinzo_overlay_by_rules(overlay, rules, 1, fill_rule));
+        CHECK(fadrinzo_arrange(overlay, fill_rule) == FADRINZO_BAD_ARGUMENT, "fill %d", fill_rule);
+        CHECK(fadrinzo_locate(overlay, 0, fill_rule, 0, 0) == FADRINZO_LOCATION_BAD_ARGUMENT, "fill %d", fill_rule);
+    }
+    check_drops(overlay, fadrinzo_overlay_by_rules(overlay, NULL, 1, 1));
+    static const int wrong_shapes[] = {-1, 2, 256, 257, INT32_MIN};
+    for (size_t i = 0; i < sizeof wrong_shapes / sizeof *wrong_shapes; i++) {
+        CHECK(fadrinzo_add_contour(overlay, wrong_shapes[i], squares[0].xy, 4) == FADRINZO_BAD_ARGUMENT, "shape %d", wrong_shapes[i]);
+        CHECK(fadrinzo_locate(overlay, wrong_shapes[i], 1, 0, 0) == FADRINZO_LOCATION_BAD_ARGUMENT, "shape %d", wrong_shapes[i]);
+    }
+    CHECK(fadrinzo_add_contour(overlay, 0, NULL, 1) == FADRINZO_BAD_ARGUMENT, "null");
+    CHECK(fadrinzo_add_contour(overlay, 0, NULL, 0) == FADRINZO_OK, "a contour of no points");
+}
+
+static void check_bounds(fadrinzo *overlay)
+{
+    static const int32_t ends[2] = {FADRINZO_MIN_COORD, FADRINZO_MAX_COORD};
+    for (int axis = 0; axis < 2; axis++)
+        for (int end = 0; end < 2; end++) {
+            int32_t xy[2] = {0, 0};
+            xy[axis] = ends[end];
+            CHECK(fadrinzo_add_contour(overlay, 1, xy, 1) == FADRINZO_OK, "axis %d, end %d", axis, end);
+            xy[axis] += end ? 1 : -1;
+            CHECK(fadrinzo_add_contour(overlay, 1, xy, 1) == FADRINZO_POINT_OUT_OF_RANGE, "axis %d, end %d", axis, end);
+            CHECK(fadrinzo_locate(overlay, 0, 1, xy[0], xy[1]) == FADRINZO_OUTSIDE, "axis %d, end %d", axis, end);
+        }
+    CHECK(FADRINZO_MIN_COORD == -(1 << 30) && FADRINZO_MAX_COORD == (1 << 30) - 1, "bounds");
+}
+
+static void check_refusals(void)
+{
+    fadrinzo *overlay = fadrinzo_new();
+    CHECK(overlay, "memory");
+    CHECK(fadrinzo_add_contour(overlay, 0, squares[0].xy, 4) == FADRINZO_OK, "a square");
+    CHECK(fadrinzo_overlay(overlay, 0, 1) == FADRINZO_OK, "a square");
+    check_codes(overlay);
+    check_bounds(overlay);
+    fadrinzo_free(overlay);
+    int rules[1] = {0};
+    CHECK(fadrinzo_add_contour(NULL, 0, squares[0].xy, 4) == FADRINZO_BAD_ARGUMENT, "null");
+    CHECK(fadrinzo_overlay(NULL, 0, 0) == FADRINZO_BAD_ARGUMENT, "null");
+    CHECK(fadrinzo_overlay_shapes(NULL, 0, 0) == FADRINZO_BAD_ARGUMENT, "null");
+    CHECK(fadrinzo_overlay_by_rules(NULL, rules, 1, 0) == FADRINZO_BAD_ARGUMENT, "null");
+    CHECK(fadrinzo_arrange(NULL, 0) == FADRINZO_BAD_ARGUMENT, "null");
+    CHECK(fadrinzo_arranged(NULL, 0, 0) == FADRINZO_BAD_ARGUMENT, "null");
+    CHECK(fadrinzo_arranged_shapes(NULL, 0, 0) == FADRINZO_BAD_ARGUMENT, "null");
+    CHECK(fadrinzo_clear(NULL) == FADRINZO_BAD_ARGUMENT, "null");
+    CHECK(fadrinzo_locate(NULL, 0, 0, 0, 0) == FADRINZO_LOCATION_BAD_ARGUMENT, "null");
+    CHECK(!fadrinzo_get(NULL).xy && !fadrinzo_get(NULL).contours, "null");
+    fadrinzo_free(NULL);
+}
+
+static void check_texts(void)
+{
+    static const int codes[] = {FADRINZO_OK, FADRINZO_NO_MEMORY, FADRINZO_COUNT_OUT_OF_RANGE, FADRINZO_POINT_OUT_OF_RANGE, FADRINZO_BAD_ARGUMENT, 3, -1};
+    static const char *const parts[] = {"done", "memory", "2147483647", "-1073741824 to 1073741823", "null", "no such status", "no such status"};
+    for (size_t i = 0; i < sizeof codes / sizeof *codes; i++)
+        CHECK(strstr(fadrinzo_text(codes[i]), parts[i]), "status %d", codes[i]);
+    CHECK(fadrinzo_version() == FADRINZO_VERSION, "version");
+}
+
+int main(void)
+{
+    check_input(squares, 6, 1);
+    check_input(triangles, 2, 0);
+    check_reach_of_arrangements();
+    check_middles();
+    check_refusals();
+    check_texts();
+    puts("all as the definitions say");
+    return 0;
+}
