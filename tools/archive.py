@@ -1,5 +1,5 @@
 #!/usr/bin/env python3
-"""Builds the archive that `rust/` links, `crates/overlay_c/out/liboverlay_core.a`.
+"""Builds the archive of the exports, `crates/overlay_c/out/libfadrinzo_exports.a`, which may be linked in place of the text in `rust/dist/`.
 
     python3 tools/archive.py [--beside-ci]
 
@@ -59,7 +59,7 @@ def build(rtlib, crate, flags):
 
 def pack(rtlib, crate, archive):
     """Puts the archive and the toolchain's part in C into one, so that a program links one file."""
-    packed = f"{crate.folder}/out/liboverlay_core.a"
+    packed = f"{crate.folder}/out/libfadrinzo_exports.a"
     if os.path.exists(packed):
         os.remove(packed)
     parts = [f"{crate.folder}/{archive}", f"{rtlib.KIT}/c/liblibc_c.a"]

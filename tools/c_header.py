@@ -1,5 +1,5 @@
 #!/usr/bin/env python3
-"""Writes `c/overlay_core_exports.h`, the exports of the archive as C declares them, from the sources of `crates/overlay_c`.
+"""Writes `c/fadrinzo_exports.h`, the exports of the archive as C declares them, from the sources of `crates/overlay_c`.
 
     python3 tools/c_header.py [--check]
 
@@ -14,11 +14,11 @@ import sys
 
 TOP = pathlib.Path(__file__).resolve().parent.parent
 SOURCES = TOP / "crates/overlay_c/src"
-HEADER = TOP / "c/overlay_core_exports.h"
+HEADER = TOP / "c/fadrinzo_exports.h"
 PACKAGE = TOP / "rust/src"
 
 NUMBERS = {"i32": "int32_t", "u8": "uint8_t", "u32": "uint32_t", "u64": "uint64_t", "i64": "int64_t", "usize": "size_t", "bool": "bool"}
-PREFIX = "overlay_core_"
+PREFIX = "fadrinzo_"
 
 # what the package calls the records of the sources
 PACKAGE_NAMES = {
@@ -99,10 +99,10 @@ def comment(doc, indent=""):
 def header():
     """Returns the text of the header."""
     known = records()
-    parts = ["/* The exports of liboverlay_core.a. Written by tools/c_header.py from crates/overlay_c; do not edit.\n"
+    parts = ["/* The exports of libfadrinzo_exports.a. Written by tools/c_header.py from crates/overlay_c; do not edit.\n"
              "   Each requires a full handle, which overlay_c_new makes, and slices of the lengths that overlay_c_sizes reports. No\n"
-             "   condition is tested: overlay_core.h has calls that test theirs. */",
-             "#ifndef OVERLAY_CORE_EXPORTS_H\n#define OVERLAY_CORE_EXPORTS_H\n",
+             "   condition is tested: fadrinzo.h has calls that test theirs. */",
+             "#ifndef FADRINZO_EXPORTS_H\n#define FADRINZO_EXPORTS_H\n",
              "#include <stdbool.h>\n#include <stddef.h>\n#include <stdint.h>\n",
              "#ifdef __cplusplus\nextern \"C\" {\n#endif\n"]
     for record in in_order(known):
@@ -198,7 +198,7 @@ def main(flags):
         return 0
     faults = list(differences())
     if not HEADER.is_file() or HEADER.read_text(encoding="utf-8") != wanted:
-        faults.append("c/overlay_core_exports.h is stale: run `python3 tools/c_header.py`")
+        faults.append("c/fadrinzo_exports.h is stale: run `python3 tools/c_header.py`")
     for fault in faults:
         print(fault)
     return 1 if faults else 0

@@ -44,8 +44,8 @@ NOT_SAID = {
 # how many words each document may have, and all of them, without the marks of tables
 LENGTHS = {
     "README.md": 1_200,
-    "CONTRIBUTING.md": 1_300,
-    "CHANGELOG.md": 1_500,
+    "CONTRIBUTING.md": 1_400,
+    "CHANGELOG.md": 1_600,
     "docs/ARCHITECTURE.md": 1_600,
     "docs/DECISIONS.md": 3_000,
     "docs/DIFFERENCES.md": 1_700,
@@ -56,14 +56,14 @@ LENGTHS = {
     "docs/PROGRAMS.md": 1_800,
     "docs/THEOREMS.md": 6_000,
 }
-ALL_WORDS, LINES_OF_README = 22_300, 120
+ALL_WORDS, LINES_OF_README = 22_900, 120
 # where a path of a document may begin, and how it may end
 OF_A_CRATE = ("", "src/", "specs/", "proofs/", "proofs/laws/*/")
 PLACES = ("", "rust/", "rust/src/", "rust/tests/", "bench/", *(f"crates/*/{it}" for it in OF_A_CRATE))
 ENDINGS = ("", ".rt", ".antt", ".rs", ".md", ".txt")
 A_PATH = r"[\w.-]+(/[\w.-]+)+|[\w-]+\.(py|rs|md|txt|sh|patch|edit)"
 # paths of documents that no file has: what commands make, and `.ci/run`, without its first point
-NOT_PATHS = r"crates/\w+/out|.*\bci/run"
+NOT_PATHS = r"(crates/\w+|c)/out(/.*)?|.*\bci/run|(rust/)?dist/[\w-]+\.s"
 # a number of a document, and where it comes from
 SAME_NUMBERS = (
     ("README.md", r"compare ([\d,]+) random runs", "rust/tests/runs.rs", r'"RUNS", ([\d_]+)'),

@@ -1,11 +1,13 @@
 #!/usr/bin/env python3
-"""Runs `rt ci`, which then also records its proof of `overlay_c`, so that the archive needs no second one.
+"""Runs `rt ci`, which then also records its proofs of `overlay_c` and `polygons`, so that the archive and `rust/dist/` need no second ones.
 
     python3 tools/ci.py
 
-The command is the toolchain's own, and proves and tests what it does without this file. Its check of a static library has one flag
-more, `-o out/checked`: the toolchain writes there what it proved, with sums of all files that it read and of the code.
-`tools/archive.py --beside-ci` has the crate compiled by that record, and the toolchain refuses it where anything differs.
+The command is the toolchain's own, and proves and tests what it does without this file. Its check of the library has one flag
+more, `-o out/checked`: the toolchain writes there what it proved, with sums of all files that it read and of the code. Of the program the
+command has that made by itself.
+`tools/archive.py --beside-ci` and `tools/dist.py` have the crates compiled by these records, and the toolchain refuses them where
+anything differs.
 The two lowest libraries get a job for each of half of the processors, since nothing else can be proved before them; the others
 try edits. Under a toolchain whose command has other steps this is plain `rt ci`, and the archive's crate is proved once more.
 """
@@ -20,6 +22,7 @@ sys.dont_write_bytecode = True
 import run  # noqa: E402  (beside this file)
 
 RECORD = "out/checked"
+SHIPPED = ("overlay_c", "polygons")
 LOWEST = ("overlay_geometry", "overlay_base")
 
 
@@ -39,13 +42,23 @@ def has_steps(rt):
     return all(steps) and [list(inspect.signature(it).parameters) for it in steps] == [["self", "flags", "tests"], ["self", "commands"]]
 
 
+def is_check(words):
+    """Whether a command of the toolchain checks a crate, and not its tests."""
+    return words[0] == "check" and "--test" not in words
+
+
+def recorded(words):
+    """The command, with a record of what it proves if it is a check."""
+    return [*words, "-o", RECORD] if is_check(words) and "-o" not in words else words
+
+
 def main():
     rt = command()
     if not has_steps(rt):
         os.execvp("rt", ["rt", "ci"])
 
     class Crate(rt.Crate):
-        """A crate whose check, if it is a static library, is recorded."""
+        """A crate whose check, if its code is shipped as text, is recorded."""
 
         def ci(self, flags, tests):
             if self.name in LOWEST and not tests:
@@ -53,9 +66,16 @@ def main():
             return super().ci(flags, tests)
 
         def prove(self, *commands):
-            if self.is_static:
-                commands = [[*words, "-o", RECORD] if words[0] == "check" and "--test" not in words else words for words in commands]
-            return super().prove(*commands)
+            if self.name not in SHIPPED:
+                return super().prove(*commands)
+            commands = [recorded(words) for words in commands]
+            status = super().prove(*commands)
+            for words in commands:
+                # of a program the command itself has a record made, elsewhere, and removes it at its end
+                if not status and is_check(words) and words[words.index("-o") + 1] != RECORD:
+                    shutil.rmtree(f"{self.folder}/{RECORD}", ignore_errors=True)
+                    shutil.copytree(words[words.index("-o") + 1], f"{self.folder}/{RECORD}")
+            return status
 
     rt.Crate = Crate
     return rt.main(["ci"])

@@ -1,6 +1,7 @@
 #!/usr/bin/env bash
 # Proofs and tests from nothing, by `rt ci`; then the edits of `must-fail/` are tried, whole runs of the programs are made, each growth
-# of them is refused in turn, and the tests of the Rust package run, where cargo is. The last line is `N passed, M failed`.
+# of them is refused in turn, crowded inputs are bounded, and the tests of the Rust package, of the calls for C and of the package for Python run, where cargo and gcc
+# are, and wrong calls are planted there. The last line is `N passed, M failed`.
 #
 #     bash tools/gate.sh                  the whole gate
 #     bash tools/gate.sh --since COMMIT   every proof and test, and of the edits only those of crates that changed since COMMIT
@@ -32,16 +33,20 @@ drop_edits_before() {
     done
 }
 
-# Makes the archive that `rust/`, `c/` and `python/` link, as soon as its crate is proved.
+# Makes the archive of the exports as soon as their crate is proved. Then compares what is shipped, which `rust/`, `c/` and `python/` take,
+# with what the proved sources give: the library and the program, byte for byte.
 make_archive() {
-    until [[ -f $room/proved/overlay_c ]]; do sleep 2; done
-    python3 tools/archive.py --beside-ci
+    until [[ -f $room/proved/overlay_c && -f $room/proved/polygons ]]; do sleep 2; done
+    python3 tools/archive.py --beside-ci && python3 tools/dist.py --check
 }
 
-# Runs the tests of the Rust package over the archive; one of them compares its texts with those of `arrange`.
+# Runs the tests of the Rust package over what is shipped, and its table over the archive; one of them compares its texts with those of
+# `arrange`.
 test_package() {
     export ARRANGE="$PWD/crates/arrange/out/arrange"
-    (cd rust && cargo test --release --offline --quiet && cargo test --release --offline --quiet --test program package_and_program_agree -- --ignored)
+    (cd rust && FADRINZO_LIB=../crates/overlay_c/out/libfadrinzo_exports.a cargo test --release --offline --quiet --test table --test build) || return
+    (cd rust && cargo test --release --offline --quiet && cargo test --release --offline --quiet --test program package_and_program_agree -- --ignored) \
+        && python3 tools/little_memory.py
 }
 
 # Compares 100,000 runs of the package with upstream's files, where these are at hand: `bench/upstream/build.py` compiles them.
@@ -57,12 +62,19 @@ compare_with_upstream() {
     fi
 }
 
-# Builds the checked calls for C over that archive, runs the example under sanitizers, where the compiler has them, and the tests of
-# the package for Python over the shared library.
+# Builds the checked calls for C over what is shipped, runs the example and the table under sanitizers, where the compiler has them, and
+# the tests of the package for Python over the shared library; then all that is installed, in an empty environment.
 test_calls() {
     make --no-print-directory -C c OUT="$room/c" all test >"$room/calls" 2>&1 || { cat "$room/calls"; return 1; }
-    OVERLAY_CORE="$room/c/liboverlay_core.so" PYTHONPATH=python python3 -B -m unittest discover -s python/tests >"$room/calls" 2>&1 \
+    python3 tools/try_packages.py || return 1
+    FADRINZO_SO="$room/c/libfadrinzo.so" PYTHONPATH=python python3 -B -m unittest discover -s python/tests >"$room/calls" 2>&1 \
         || { cat "$room/calls"; return 1; }
+}
+
+# Makes the page of that code and compares it with the shared library, in node and in Chromium, where these are.
+test_page() {
+    python3 page/make.py --library "$room/c/libfadrinzo.so" >"$room/page" 2>&1 || { cat "$room/page"; return 1; }
+    cat "$room/page"
 }
 
 copy_tree
@@ -81,6 +93,7 @@ export RT_JOBS
 python3 tools/check_docs.py
 python3 tools/unused_lemmas.py
 python3 tools/c_header.py --check
+python3 tools/dist.py --stale
 cd "$room/copy"
 lines="$room/lines"
 status=0
@@ -120,9 +133,15 @@ if [[ $verdict =~ ^([0-9]+)\ passed,\ ([0-9]+)\ failed(.*)$ ]]; then
         else
             failed=$((failed + 1)) status=1
         fi
+        if python3 tools/crowded_inputs.py; then
+            passed=$((passed + 1))
+        else
+            printf '%5d s: crowded inputs take TOO MUCH\n' "$SECONDS"
+            failed=$((failed + 1)) status=1
+        fi
         if ! wait "$archiving"; then
             cat "$room/archive"
-            printf '%5d s: the archive was NOT made\n' "$SECONDS"
+            printf '%5d s: the archive was NOT made, or rust/dist/ is NOT what the proved sources give\n' "$SECONDS"
             failed=$((failed + 1)) status=1
         elif ! command -v cargo >/dev/null; then
             printf '%5d s: the tests of rust/ were not run: there is no cargo\n' "$SECONDS"
@@ -136,13 +155,31 @@ if [[ $verdict =~ ^([0-9]+)\ passed,\ ([0-9]+)\ failed(.*)$ ]]; then
         fi
         if ! { command -v gcc && command -v make; } >/dev/null; then
             printf '%5d s: the tests of c/ and python/ were not run: there is no gcc or no make\n' "$SECONDS"
-        elif ! [[ -f crates/overlay_c/out/liboverlay_core.a ]]; then
+        elif ! [[ -f crates/overlay_c/out/libfadrinzo_exports.a ]]; then
             printf '%5d s: the tests of c/ and python/ were not run: there is no archive\n' "$SECONDS"
         elif test_calls; then
             printf '%5d s: the tests of c/ and python/ passed\n' "$SECONDS"
             passed=$((passed + 1))
         else
             printf '%5d s: the tests of c/ and python/ FAILED\n' "$SECONDS"
+            failed=$((failed + 1)) status=1
+        fi
+        if ! [[ -f $room/c/libfadrinzo.so ]] || ! command -v node >/dev/null; then
+            printf '%5d s: the page was not made: there is no shared library or no node\n' "$SECONDS"
+        elif test_page; then
+            printf '%5d s: the page overlays as the library does\n' "$SECONDS"
+            passed=$((passed + 1))
+        else
+            printf '%5d s: the page DIFFERS\n' "$SECONDS"
+            failed=$((failed + 1)) status=1
+        fi
+        if ! { command -v gcc && command -v make && [[ -f crates/overlay_c/out/libfadrinzo_exports.a ]]; } >/dev/null; then
+            printf '%5d s: wrong calls were not tried: there is no gcc, no make or no archive\n' "$SECONDS"
+        elif python3 tools/plant_calls.py; then
+            printf '%5d s: wrong calls of c/, python/ and rust/ are refused\n' "$SECONDS"
+            passed=$((passed + 1))
+        else
+            printf '%5d s: wrong calls PASS\n' "$SECONDS"
             failed=$((failed + 1)) status=1
         fi
         wait "$trying" || status=1

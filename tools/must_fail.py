@@ -485,7 +485,8 @@ class Trial:
         for file, text in texts.items():
             pathlib.Path(room, file).write_text(text, encoding="utf-8")
         for file, goal in {it for edit in edits for it in edit.vain}:
-            path = pathlib.Path(room, file)
+            # what was seen in a copy of a function is tried in the function itself
+            path = pathlib.Path(room, re.sub(f"{COPY}[0-9]+", "", file))
             kept = ANSWER.sub(lambda it: "" if it[1] == goal else it[0], path.read_text(encoding="utf-8"))
             path.write_text(kept, encoding="utf-8")
         return texts

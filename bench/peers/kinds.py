@@ -1,10 +1,11 @@
-"""The kinds of polygons of the races: those of bench/race.py, and three more. All contours are simple and run counterclockwise.
+"""The kinds of polygons of the races: those of bench/race.py, and four more. All contours are simple and run counterclockwise.
 
 - rectangles: random rectangles of either shape over the whole range, each of which meets some ten others;
 - town: uneven parcels of four sides, side by side, as the subject; as the clip a turned building of four to eight corners on each, every
   fifth of which may cross a border of its parcel;
 - slivers: thin triangles over the whole range. Two corners are points that many of them share, or are near to such points, and the
-  third is near to the line through them, so that many sides nearly lie on one another.
+  third is near to the line through them, so that many sides nearly lie on one another;
+- nested: squares with one corner, each inside the next, so that their sides overlap along two lines.
 """
 import math
 import os
@@ -84,7 +85,12 @@ def slivers(number):
             made += 1
 
 
-KINDS = {**POLYGONS, "rectangles": rectangles, "town": town, "slivers": slivers}
+def nested(number):
+    for side in range(10, 10 + number // 4):
+        yield "S", [(0, 0), (side, 0), (side, side), (0, side)]
+
+
+KINDS = {**POLYGONS, "rectangles": rectangles, "town": town, "slivers": slivers, "nested": nested}
 FEWER = {**SMALLER, "slivers": 12}
 
 

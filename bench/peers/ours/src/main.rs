@@ -1,7 +1,7 @@
 //! The race over our package: the words of a command line, and the line that it prints, are those of `../cpp/race.h`; a
 //! last word `pairwise` chooses that rounding. Each run makes an `Overlay`, adds the contours, and overlays them.
 
-use i_overlay_core::{Error, FillRule, IntContour, IntPoint, Overlay, OverlayRule, Rounding};
+use fadrinzo::{Error, FillRule, IntContour, IntPoint, Overlay, OverlayRule, Rounding};
 use std::time::Instant;
 
 #[repr(C)]

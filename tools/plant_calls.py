@@ -1,0 +1,172 @@
+#!/usr/bin/env python3
+"""Plants wrong bodies in what lies above the exports, and runs the tests of their layers: each has to fail there.
+
+    python3 tools/plant_calls.py [--archive FILE] [NAME ..]
+
+A body is one line of `c/`, `python/` or `rust/src` in place of another, in a copy. Its layer's table of rules and refusals is run over it,
+and for some the test that a line of PLANTS names. Prints each body that passes, and how many fail; ends with 1 where one passes, or where
+a line is not there to be replaced.
+"""
+import argparse
+import concurrent.futures
+import dataclasses
+import os
+import pathlib
+import shutil
+import subprocess
+import sys
+import tempfile
+
+ROOT = pathlib.Path(__file__).resolve().parent.parent
+ARCHIVE = ROOT / "crates/overlay_c/out/libfadrinzo_exports.a"
+FLAGS = ["-std=c11", "-O1", "-UNDEBUG"]
+C, PYTHON, WKT, RUST = "c/fadrinzo.c", "python/fadrinzo/__init__.py", "python/fadrinzo/wkt.py", "rust/src/"
+
+
+@dataclasses.dataclass(frozen=True)
+class Plant:
+    """A wrong body: the file, the line and what is in its place, and the tests that have to fail, or the table of its layer."""
+
+    name: str
+    file: str
+    old: str
+    new: str
+    tests: str = ""
+
+
+PLANTS = [
+    Plant("positive is taken as non-zero", C, ".fill_rule = (uint8_t)fill_rule}", ".fill_rule = (uint8_t)(fill_rule == 2 ? 1 : fill_rule)}"),
+    Plant("positive and negative are exchanged", C, ".fill_rule = (uint8_t)fill_rule}", ".fill_rule = (uint8_t)(fill_rule < 2 ? fill_rule : 5 - fill_rule)}"),
+    Plant("inverse difference is difference", C, "call(&overlay->handle, &settings, (uint8_t)rule);", "call(&overlay->handle, &settings, (uint8_t)(rule == 5 ? 4 : rule));"),
+    Plant("crossings are rounded pair by pair", C, ".strategy = 3,", ".strategy = 3, .rounding = 1,"),
+    Plant("reach is taken from passes", C, "overlay_c_report(&overlay->handle).reach.low", "overlay_c_report(&overlay->handle).passes.low"),
+    Plant("the reach of an arrangement is that of the last overlay", C, "overlay_c_arranged_report(", "overlay_c_report("),
+    Plant("the reach of an arrangement is the most there is", C, "overlay_c_arranged_report(&overlay->handle).reach.low", "1"),
+    Plant("the last table is refused", C, "rule < FADRINZO_RULE_TABLE + 16", "rule < FADRINZO_RULE_TABLE + 15"),
+    Plant("a result is dropped", C, "        .contours = sizes.contours,", "        .contours = sizes.contours - (sizes.contours > 2),"),
+    Plant("a rule of many is the first one", C, "codes[i] = (uint8_t)rules[i];", "codes[i] = (uint8_t)rules[i ? i - 1 : 0];"),
+    Plant("collinear points stay", C, "call(&overlay->handle, (uint8_t)rule, corners != 0);", "call(&overlay->handle, (uint8_t)rule, false);"),
+    Plant("a clip is added to the subject", C, "points, (uint8_t)shape);", "points, (uint8_t)(shape & 0));"),
+    Plant("a refused call leaves the result before", C, "    if (overlay)\n        drop_result(overlay);\n    return FADRINZO_BAD_ARGUMENT;", "    return FADRINZO_BAD_ARGUMENT;"),
+    Plant("a rule without a name is taken", C, "rule <= FADRINZO_RULE_XOR)", "rule <= FADRINZO_RULE_XOR + 1)"),
+    Plant("a boundary counts as inside", C, "(fadrinzo_location)code;", "(fadrinzo_location)(code == 1 ? 0 : code);"),
+    Plant("scaled coordinates are floored", PYTHON, "return round(scaled) if", "return int(scaled // 1) if"),
+    Plant("a hole is left out", PYTHON, "(contours[0], contours[1:])", "(contours[0], contours[2:])"),
+    Plant("fills are exchanged", PYTHON, '"positive": 2, "negative": 3', '"positive": 3, "negative": 2'),
+    Plant("rules are exchanged", PYTHON, '"difference": 4, "inverse-difference": 5', '"difference": 5, "inverse-difference": 4'),
+    Plant("the clip is the subject", PYTHON, '[("subject", subject), ("clip", clip)]]', '[("subject", subject), ("clip", subject)]]'),
+    Plant("inside is the boundary", PYTHON, '["inside", "boundary", "outside"]', '["boundary", "inside", "outside"]'),
+    Plant("a coordinate at the end of the range is refused", PYTHON, "if not MIN_COORD <= number <= MAX_COORD:", "if not MIN_COORD < number < MAX_COORD:"),
+    Plant("an arrangement has the reach of the last result", PYTHON, "_check(_calls().fadrinzo_arranged(self._handle, NOTHING, 0))", "pass"),
+    Plant("an arrangement has always moved edges", PYTHON, "return _calls().fadrinzo_get(self._handle).reach", "return 1"),
+    Plant("holes of WKT run as they are written", WKT, "points[::-1] if (area < 0) == (index == 0) else points", "points[::-1] if area < 0 and index == 0 else points", "test_wkt.Overlays"),
+    Plant("inverse difference has the code of difference", RUST + "rules.rs", "OverlayRule::InverseDifference => 5,", "OverlayRule::InverseDifference => 4,"),
+    Plant("a table loses its last bit", RUST + "rules.rs", "16 + table.bits,", "16 + table.bits % 8,"),
+    Plant("positive and negative change places", RUST + "overlay.rs", "fill_rule: fill_rule as u8,", "fill_rule: [0, 1, 3, 2][fill_rule as usize],"),
+    Plant("each rounding is pairwise", RUST + "overlay.rs", "rounding: self.rounding as u8,", "rounding: 1,"),
+    Plant("reach is the number of passes", RUST + "overlay.rs", "self.reach = reach.number();", "self.reach = passes.number();"),
+    Plant("a boundary is inside", RUST + "overlay.rs", "1 => PointLocation::OnBoundary,", "1 => PointLocation::Inside,"),
+    Plant("rings are turned the other way", RUST + "overlay.rs", "(area > 0) == is_counterclockwise", "(area > 0) != is_counterclockwise"),
+    Plant("collinear points stay in shapes", RUST + "arrangement.rs", "arranged_shapes(overlay_rule.code(), corners)", "arranged_shapes(overlay_rule.code(), false && corners)"),
+    Plant("an arrangement reports the last overlay", RUST + "arrangement.rs", "self.engine.arranged_report()", "self.engine.report()"),
+    Plant("the reach of an arrangement is one", RUST + "arrangement.rs", "reach: reach.number() })", "reach: 1 })"),
+    Plant("the reach of an arrangement is its passes", RUST + "arrangement.rs", "reach: reach.number() })", "reach: passes.number() })"),
+    Plant("an arrangement has made one pass", RUST + "arrangement.rs", "passes: passes.number(),", "passes: 1,"),
+    Plant("floats are cut", RUST + "float.rs", "(point[axis] - center[axis]) * scale).round()", "(point[axis] - center[axis]) * scale).trunc()"),
+    Plant("parts are joined where the line left", RUST + "clip.rs", "(is_open || index > 0) &&", "(is_open || index < 9) &&", "clip_lines"),
+    Plant("an engine that was not made is freed", RUST + "ffi.rs", "is_full.then(|| Engine { handle })", "is_full.then_some(Engine { handle })", "memory"),
+    Plant("the last shape is left out", RUST + "ffi.rs", "let len = self.sizes().shapes;", "let len = self.sizes().shapes.saturating_sub(1);"),
+]
+
+
+def copy_of(folder):
+    """Copies what the layers are made of."""
+    for part in ("c", "python", "rust"):
+        shutil.copytree(ROOT / part, f"{folder}/{part}", symlinks=True, ignore=shutil.ignore_patterns("target", "out", "__pycache__", "footprints"))
+
+
+def write(folder, plant):
+    """Writes the body into the copy. Returns the text that was there."""
+    path = pathlib.Path(folder, plant.file)
+    text = path.read_text(encoding="utf-8")
+    if text.count(plant.old) != 1:
+        sys.exit(f"{plant.name}: the line is {text.count(plant.old)} times in {plant.file}")
+    path.write_text(text.replace(plant.old, plant.new), encoding="utf-8")
+    return text
+
+
+def passes(*words, **named):
+    """Whether a command ends with 0."""
+    return subprocess.run(words, stdout=subprocess.DEVNULL, stderr=subprocess.DEVNULL, check=False, **named).returncode == 0
+
+
+def build(*words, **named):
+    """Runs a command that has to end with 0: a body that cannot be built is none."""
+    done = subprocess.run(words, stdout=subprocess.PIPE, stderr=subprocess.STDOUT, text=True, check=False, **named)
+    if done.returncode:
+        sys.exit(f"{' '.join(words)}: {done.stdout}")
+
+
+def passes_c(folder, archive, _):
+    table = f"{folder}/table"
+    build("cc", *FLAGS, "-o", table, f"{folder}/c/table.c", f"{folder}/c/fadrinzo.c", archive)
+    return passes(table)
+
+
+def passes_python(folder, archive, plant):
+    library = f"{folder}/libfadrinzo.so"
+    if not os.path.exists(library):
+        build("cc", *FLAGS, "-fPIC", "-shared", "-o", library, f"{folder}/c/fadrinzo.c", archive)
+    environment = {**os.environ, "FADRINZO_SO": library, "PYTHONPATH": f"{folder}/python:{folder}/python/tests"}
+    tests = plant.tests.split() or ["test_table.Table", "test_table.Refusals"]
+    return passes(sys.executable, "-B", "-m", "unittest", "-f", *tests, env=environment)
+
+
+def passes_rust(folder, archive, plant):
+    # each copy has a target of its own name, so that cargo compiles the body and not what was there before
+    environment = {**os.environ, "FADRINZO_LIB": str(archive), "CARGO_TARGET_DIR": f"{folder}/target"}
+    words = ["cargo", "test", "--offline", "--quiet", "--test", plant.tests or "table"]
+    build(*words, "--no-run", env=environment, cwd=f"{folder}/rust")
+    return passes(*words, env=environment, cwd=f"{folder}/rust")
+
+
+LAYERS = {"c": passes_c, "python": passes_python, "rust": passes_rust}
+
+
+def try_layer(layer, plants, archive):
+    """Tries the bodies of a layer in a copy, one after another. Returns those that pass."""
+    with tempfile.TemporaryDirectory(prefix="plant-calls-") as folder:
+        copy_of(folder)
+        whole = Plant("nothing is wrong", "", "", "")
+        if not LAYERS[layer](folder, archive, whole):
+            sys.exit(f"the tests of {layer}/ fail without a wrong body")
+        found = []
+        for plant in plants:
+            text = write(folder, plant)
+            if LAYERS[layer](folder, archive, plant):
+                found.append(plant)
+            pathlib.Path(folder, plant.file).write_text(text, encoding="utf-8")
+    return found
+
+
+def main():
+    parser = argparse.ArgumentParser(description=__doc__, formatter_class=argparse.RawDescriptionHelpFormatter)
+    parser.add_argument("--archive", type=pathlib.Path, default=ARCHIVE)
+    parser.add_argument("names", nargs="*")
+    given = parser.parse_args()
+    chosen = [it for it in PLANTS if not given.names or it.name in given.names]
+    layers = {layer: [it for it in chosen if it.file.startswith(f"{layer}/")] for layer in LAYERS}
+    if not shutil.which("cargo") and layers.pop("rust"):
+        print("no wrong body of rust/ was tried: there is no cargo")
+    with concurrent.futures.ThreadPoolExecutor() as pool:
+        jobs = [pool.submit(try_layer, layer, plants, given.archive.resolve()) for layer, plants in layers.items() if plants]
+        passing = [it for job in jobs for it in job.result()]
+    for plant in passing:
+        print(f"{plant.file}: {plant.name}: the tests PASS")
+    tried = sum(map(len, layers.values()))
+    print(f"{tried - len(passing)} of {tried} wrong calls refused by their tests")
+    return 1 if passing else 0
+
+
+if __name__ == "__main__":
+    sys.exit(main())
