@@ -3,7 +3,6 @@
 
 Usage, from the top of the repository:
 
-    python3 tools/archive.py
     python3 bench/in_process.py --upstream PROGRAM [--rounds N] [--turns N] [--strategy NAME] [--kinds KIND,KIND] [NUMBER ..]
     python3 bench/in_process.py --strategies [--rounds N] [--turns N] [--kinds KIND,KIND] [NUMBER ..]
 

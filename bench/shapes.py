@@ -5,7 +5,7 @@ Usage, from the top of the repository: python3 bench/shapes.py [--turns N] [NUMB
 
 Each kind is made of the given numbers of edges (50,000 if none are given). For each a row of a table is printed: kind, edges, the
 least wall time of nine runs of each, by turns, in milliseconds, of the union as contours and in shapes, and of four rules as contours,
-and how many times as long the shapes and the rules took. `tools/archive.py` makes the archive that the package links.
+and how many times as long the shapes and the rules took.
 
 The kinds are blobs and coast of bench/race.py, and squares and rings of bench/split.py.
 """

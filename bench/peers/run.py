@@ -3,7 +3,6 @@
 
 Usage, from the top of the repository:
 
-    python3 tools/archive.py
     python3 bench/peers/run.py [--kinds KIND,KIND] [--rules RULE,RULE] [--programs NAME,NAME] [--rounds N] [--seconds S] [--limit S]
         [NUMBER ..]
 
