@@ -26,6 +26,7 @@ pub enum LinkRule {
 }
 
 /// Whether a segment with this fill becomes a link.
+#[inline(always)]
 fn is_kept(rule: LinkRule, fill: SegmentFill) -> bool
     ensures { result ≡ keeps_by rule fill }
 {

@@ -45,10 +45,10 @@ impl<C: WindingCount, I: OverlayInt> Entry<C, I> {
     /// Whether the segment comes before a place. Every order of an entry is compared here, and is
     /// counted.
     #[inline(always)]
-    pub(crate) fn is_before(&self, place: &Place<I>, compared: &mut u128) -> bool
+    pub(crate) fn is_before(&self, place: &Place<I>, compared: &mut u64) -> bool
         requires { IsPlaceInRange I.whole I.MIN_COORD I.MAX_COORD place.now }
         ensures value { result ≡ stands_before I.whole place.now (v_pair_of I.whole self.now.segment) }
-        ensures compared { compared.new ≡ min (compared.old + 1) (2 ^ 128 - 1) }
+        ensures compared { compared.new ≡ min (compared.old + 1) (2 ^ 64 - 1) }
     {
         *compared = compared.saturating_add(1);
         place.is_after(&self.segment)

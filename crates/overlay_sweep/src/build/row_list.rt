@@ -60,14 +60,14 @@ impl<C: WindingCount, I: OverlayInt> RowList<C, I> {
 
     /// Whether the last entry of a row that has not ended comes before a place. Drops those behind
     /// it. Drops the row and returns `None` where all have ended.
-    fn ask_last(&mut self, row: usize, x: I, place: &Place<I>, compared: &mut u128) -> Option<bool>
+    fn ask_last(&mut self, row: usize, x: I, place: &Place<I>, compared: &mut u64) -> Option<bool>
         requires within { row < length (rows_in self.old) }
         requires place { IsPlaceInRange I.whole I.MIN_COORD I.MAX_COORD place.now }
         ensures dropped { IfNone result (IsRowDropped (I.whole x) row (rows_in self.old) (rows_in self.new)) }
         ensures trimmed { IfSome result (λ before. IsTrimmed (I.whole x) (λ s. stands_before I.whole place.now s.pair) before
             row (rows_in self.old) (rows_in self.new)) }
         ensures none_asked { IfNone result (compared.new ≡ compared.old) }
-        ensures asked { IfSome result (λ _. compared.new ≡ min (compared.old + 1) (2 ^ 128 - 1)) }
+        ensures asked { IfSome result (λ _. compared.new ≡ min (compared.old + 1) (2 ^ 64 - 1)) }
     {
         self.rows[row].drop_ended_last(x);
         let entries = self.rows[row].entries();
@@ -81,7 +81,8 @@ impl<C: WindingCount, I: OverlayInt> RowList<C, I> {
 
     /// The first row whose last entry does not come before a place, or the number of rows, by
     /// halves. Drops the entries that have ended at the ends of the rows it compares.
-    fn find_row(&mut self, x: I, place: &Place<I>, compared: &mut u128) -> usize
+    #[inline(never)]
+    fn find_row(&mut self, x: I, place: &Place<I>, compared: &mut u64) -> usize
         requires place { IsPlaceInRange I.whole I.MIN_COORD I.MAX_COORD place.now }
         requires some { HaveSome (rows_in self.old) }
         requires none { compared.old ≡ 0 }
@@ -128,7 +129,8 @@ impl<C: WindingCount, I: OverlayInt> RowList<C, I> {
 
     /// Searches for a place by halves in the only row, and never drops all its entries. Returns a spot
     /// with the place, and leaves in `compared` how many orders it compares.
-    fn search_only(&mut self, x: I, place: &Place<I>, compared: &mut u128) -> Spot
+    #[inline(always)]
+    fn search_only(&mut self, x: I, place: &Place<I>, compared: &mut u64) -> Spot
         requires place { IsPlaceInRange I.whole I.MIN_COORD I.MAX_COORD place.now }
         requires one { length (rows_in self.old) ≡ 1 }
         ensures keeps { KeepsLasting (I.whole x) (joined (rows_in self.old)) (joined (rows_in self.new)) }
@@ -151,7 +153,8 @@ impl<C: WindingCount, I: OverlayInt> RowList<C, I> {
     /// Returns a spot with the place: the entry below has not ended and comes before it, and the
     /// next one above that has not ended does not. Leaves in `compared` how many orders it
     /// compares: no more than a descent of a balanced tree of as many entries.
-    pub(crate) fn search(&mut self, x: I, place: &Place<I>, compared: &mut u128) -> Spot
+    #[inline(always)]
+    pub(crate) fn search(&mut self, x: I, place: &Place<I>, compared: &mut u64) -> Spot
         requires place { IsPlaceInRange I.whole I.MIN_COORD I.MAX_COORD place.now }
         requires some { HaveSome (rows_in self.old) }
         ensures keeps { KeepsLasting (I.whole x) (joined (rows_in self.old)) (joined (rows_in self.new)) }
@@ -180,6 +183,7 @@ impl<C: WindingCount, I: OverlayInt> RowList<C, I> {
     }
 
     /// The entry just below a spot.
+    #[inline(always)]
     pub(crate) fn below(&self, spot: Spot) -> Option<Entry<C, I>>
         requires some { HaveSome (rows_in self.now) }
         requires index { IsIndexIn (rows_in self.now) spot.row spot.at }
@@ -201,6 +205,7 @@ impl<C: WindingCount, I: OverlayInt> RowList<C, I> {
 
     /// Whether a point is the start of the next entry from a spot on that has not ended. That entry has to be in the row
     /// of the spot, unless this is the last row.
+    #[inline(always)]
     pub(crate) fn starts_behind(&self, x: I, p: IntPoint<I>, spot: Spot) -> bool
         requires index { IsIndexIn (rows_in self.now) spot.row spot.at }
         requires near { IsNextNear (I.whole x) (rows_in self.now) spot.row spot.at }
@@ -229,11 +234,12 @@ impl<C: WindingCount, I: OverlayInt> RowList<C, I> {
     /// Searches for a place by halves among all entries, which are moved to one row for it. Leaves in
     /// `compared` how many orders it compares: one less than `search` may, so one could be compared
     /// before.
+    #[inline(never)]
     pub(crate) fn search_gathered(
         &mut self,
         x: I,
         place: &Place<I>,
-        compared: &mut u128,
+        compared: &mut u64,
     ) -> Result<Spot, Fault>
         requires place { IsPlaceInRange I.whole I.MIN_COORD I.MAX_COORD place.now }
         requires some { 1 ≤ length (joined (rows_in self.old)) }
@@ -252,6 +258,7 @@ impl<C: WindingCount, I: OverlayInt> RowList<C, I> {
 
     /// Cuts the row of a spot into halves if it is full, and makes the first row if there is none. Returns where the spot
     /// is then.
+    #[inline(always)]
     fn make_room(&mut self, spot: Spot) -> Result<Spot, Fault>
         requires some { HaveSomeBut spot.row (rows_in self.old) }
         requires index { IsIndexIn (rows_in self.old) spot.row spot.at }
@@ -286,6 +293,7 @@ impl<C: WindingCount, I: OverlayInt> RowList<C, I> {
     }
 
     /// Puts an entry in at a spot, in place of the one there if that has ended. Returns the spot behind it.
+    #[inline(always)]
     pub(crate) fn put(&mut self, spot: Spot, entry: Entry<C, I>, x: I) -> Result<Spot, Fault>
         requires some { HaveSomeBut spot.row (rows_in self.old) }
         requires index { IsIndexIn (rows_in self.old) spot.row spot.at }

@@ -18,7 +18,7 @@ pub struct ScanList<C: WindingCount, I: OverlayInt> {
     entries: Vec<Entry<C, I>>,
     /// No entry ends left of it, so that up to here a search has nothing to drop.
     least_end: I,
-    compared: u128,
+    compared: u64,
 }
 
 impl<C: WindingCount, I: OverlayInt> ScanList<C, I> {
@@ -79,7 +79,7 @@ impl<C: WindingCount, I: OverlayInt> ScanList<C, I> {
 
     /// How many entries come before a place. Adds to `compared` how many orders it compares:
     /// whatever the place, a number that the length alone decides.
-    fn position(&self, place: &Place<I>, compared: &mut u128) -> usize
+    fn position(&self, place: &Place<I>, compared: &mut u64) -> usize
         requires place { IsPlaceInRange I.whole I.MIN_COORD I.MAX_COORD place.now }
         requires none { compared.old ≡ 0 }
         ensures position { IsPosition (λ i. stands_before I.whole place.now (segment_at
@@ -207,6 +207,6 @@ impl<C: WindingCount, I: OverlayInt> LiveSegments<C, I> for ScanList<C, I> {
     }
 
     fn compared(&self) -> u128 {
-        self.compared
+        u128::from(self.compared)
     }
 }

@@ -24,7 +24,7 @@ pub struct ScanRow<C: WindingCount, I: OverlayInt> {
     cursor: usize,
     point: IntPoint<I>,
     has_cursor: bool,
-    compared: u128,
+    compared: u64,
 }
 
 impl<C: WindingCount, I: OverlayInt> ScanRow<C, I> {
@@ -118,13 +118,8 @@ impl<C: WindingCount, I: OverlayInt> ScanRow<C, I> {
     /// drops the third of three in a row, so it never drops all. Returns an index with the place:
     /// the entry below has not ended and comes before it, and the next one above that has not ended
     /// does not. Adds to `compared` how many orders it compares.
-    pub(crate) fn search(
-        &mut self,
-        x: I,
-        place: &Place<I>,
-        end: usize,
-        compared: &mut u128,
-    ) -> usize
+    #[inline(always)]
+    pub(crate) fn search(&mut self, x: I, place: &Place<I>, end: usize, compared: &mut u64) -> usize
         requires place { IsPlaceInRange I.whole I.MIN_COORD I.MAX_COORD place.now }
         requires end { HasNext (lasts_past (I.whole x)
             (entries_of self.old.entries.items)) (λ i. stands_before I.whole place.now (segment_at
@@ -176,7 +171,7 @@ impl<C: WindingCount, I: OverlayInt> ScanRow<C, I> {
 
     /// Searches below an end for a place, after some orders were compared. Returns an index with
     /// the place, and leaves in `compared` how many orders were compared in all. Drops the cursor.
-    fn settle(&mut self, x: I, place: &Place<I>, end: usize, asked: u128) -> usize
+    fn settle(&mut self, x: I, place: &Place<I>, end: usize, asked: u64) -> usize
         requires place { IsPlaceInRange I.whole I.MIN_COORD I.MAX_COORD place.now }
         requires end { HasNext (lasts_past (I.whole x)
             (entries_of self.old.entries.items)) (λ i. stands_before I.whole place.now (segment_at
@@ -203,6 +198,7 @@ impl<C: WindingCount, I: OverlayInt> ScanRow<C, I> {
     }
 
     /// Whether a point is the start of the next entry from an index on that has not ended.
+    #[inline(always)]
     pub(crate) fn starts_behind(&self, x: I, p: IntPoint<I>, from: usize) -> bool
         ensures { result ≡ false → IsElsewhere (lasts_past (I.whole x)
             (entries_of self.now.entries.items)) (λ i. point_eq (segment_at
@@ -269,6 +265,7 @@ impl<C: WindingCount, I: OverlayInt> ScanRow<C, I> {
     }
 
     /// Puts an entry in at an index, in place of the one there if that has ended.
+    #[inline(always)]
     pub(crate) fn put(&mut self, at: usize, entry: Entry<C, I>, x: I) -> Result<(), Fault>
         requires { at ≤ length self.old.entries.items }
         ensures put { OnOk result (IsPutIn (lasts_past (I.whole x)
@@ -371,6 +368,6 @@ impl<C: WindingCount, I: OverlayInt> LiveSegments<C, I> for ScanRow<C, I> {
     }
 
     fn compared(&self) -> u128 {
-        self.compared
+        u128::from(self.compared)
     }
 }

@@ -25,7 +25,7 @@ pub struct ScanRows<C: WindingCount, I: OverlayInt> {
     cursor: Spot,
     point: IntPoint<I>,
     has_cursor: bool,
-    compared: u128,
+    compared: u64,
 }
 
 impl<C: WindingCount, I: OverlayInt> ScanRows<C, I> {
@@ -61,7 +61,8 @@ impl<C: WindingCount, I: OverlayInt> ScanRows<C, I> {
     /// Whether the cursor is the place of a segment: it is kept for the segment's start, and the
     /// segment does not run below the entry under the cursor. Adds to `compared` the order that
     /// this compares, if that entry starts there too.
-    fn fits_cursor(&self, entry: &Entry<C, I>, compared: &mut u128) -> bool
+    #[inline(always)]
+    fn fits_cursor(&self, entry: &Entry<C, I>, compared: &mut u64) -> bool
         requires some { HaveSome (rows_in self.now.entries) }
         requires index { IsIndexIn (rows_in self.now.entries) self.now.cursor.row self.now.cursor.at }
         requires none { compared.old ≡ 0 }
@@ -93,6 +94,7 @@ impl<C: WindingCount, I: OverlayInt> ScanRows<C, I> {
 
     /// Finds the place of a segment that starts at `x`: at the cursor, if the segment fits there, and else by a search.
     /// Keeps the cursor only where it is the place.
+    #[inline(always)]
     fn settle(&mut self, x: I, entry: &Entry<C, I>) -> Result<Spot, Fault>
         requires time { AreInRowsAt (I.whole x) self.old }
         requires start { I.whole entry.now.segment.a.x ≡ I.whole x }
@@ -131,6 +133,7 @@ impl<C: WindingCount, I: OverlayInt> ScanRows<C, I> {
     }
 
     /// Puts an entry that starts at `x` in at its place, and the cursor behind it.
+    #[inline(always)]
     fn place(&mut self, x: I, entry: Entry<C, I>) -> Result<(), Fault>
         requires time { AreInRowsAt (I.whole x) self.old }
         requires start { I.whole entry.segment.a.x ≡ I.whole x }
@@ -168,6 +171,7 @@ impl<C: WindingCount, I: OverlayInt> LiveSegments<C, I> for ScanRows<C, I> {
 
     ghost may_go_on_at = { λ rows x. AreInRowsAt x rows };
 
+    #[inline(always)]
     fn insert(&mut self, segment: VSegment<I>, sum: C, x: I) -> Result<(), Fault>
         requires in_range { IsVSegmentInRange I.whole I.MIN_COORD I.MAX_COORD segment }
         requires start { I.whole segment.a.x ≡ I.whole x }
@@ -192,6 +196,7 @@ impl<C: WindingCount, I: OverlayInt> LiveSegments<C, I> for ScanRows<C, I> {
         }
     }
 
+    #[inline(always)]
     fn sum_below(&mut self, x: I, p: IntPoint<I>, default: C) -> C
         requires point { IsPointInRange I.whole I.MIN_COORD I.MAX_COORD p }
         requires same_x { I.whole p.x ≡ I.whole x }
@@ -228,6 +233,6 @@ impl<C: WindingCount, I: OverlayInt> LiveSegments<C, I> for ScanRows<C, I> {
     }
 
     fn compared(&self) -> u128 {
-        self.compared
+        u128::from(self.compared)
     }
 }

@@ -44,7 +44,7 @@ pub struct ScanTree<C: WindingCount, I: OverlayInt> {
     root: usize,
     /// How many entries are in the tree.
     kept: usize,
-    compared: u128,
+    compared: u64,
 }
 
 impl<C: WindingCount, I: OverlayInt> ScanTree<C, I> {
@@ -262,6 +262,6 @@ impl<C: WindingCount, I: OverlayInt> LiveSegments<C, I> for ScanTree<C, I> {
     }
 
     fn compared(&self) -> u128 {
-        self.compared
+        u128::from(self.compared)
     }
 }

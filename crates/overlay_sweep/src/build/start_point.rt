@@ -31,6 +31,7 @@ pub fn start_point_end<C: WindingCount, I: OverlayInt, D: Copy>(
 }
 
 /// Sorts ways by their angles, one or two of them without a call of the sort.
+#[inline(always)]
 fn sort_by_angle<I: OverlayInt>(ways: &mut Vec<Way<I>>) -> Result<(), AllocError>
     ensures { OnOk result (ways_of ways.new.items ≡ by_angle (ways_of ways.old.items)) }
 {
@@ -45,6 +46,7 @@ fn sort_by_angle<I: OverlayInt>(ways: &mut Vec<Way<I>>) -> Result<(), AllocError
 }
 
 /// Collects the ways of the segments from an index up to another, in order of their angles.
+#[inline(always)]
 pub fn collect_ways<C: WindingCount, I: OverlayInt, D: Copy>(
     segments: &[Segment<C, I, D>],
     index: usize,

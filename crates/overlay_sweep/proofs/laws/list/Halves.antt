@@ -6,7 +6,7 @@ use Rattle.std.proofs.Math.Nat.{two-pow-succ, add-mul, mul-le-mul_right}
 use Rattle.overlay_base.specs.Segments.{WholeSegment}
 use Rattle.overlay_sweep.specs.ScanTrees.{segment_at}
 use Rattle.overlay_sweep.specs.LivePositions.{HasNext, IsLivePosition}
-use Rattle.overlay_sweep.proofs.laws.list.Searches.{below_power}
+use Rattle.overlay_sweep.proofs.laws.list.Searches.{short_count}
 
 -- ---- where the place lies
 
@@ -130,10 +130,10 @@ counting_begins first size asked all none = rw (all, none) (record { narrow = om
 
 module _ (first size asked : ℕ) (s : IsCounting first size asked) where
   -- the count stays far below its limit
-  pub counts_one : first < 2 ^ 64 → (more : ℕ) → more ≡ min (asked + 1) (2 ^ 128 - 1) → more ≡ asked + 1
+  pub counts_one : first < 2 ^ 64 → (more : ℕ) → more ≡ min (asked + 1) (2 ^ 64 - 1) → more ≡ asked + 1
   counts_one short more e = elim s.few [
     | inl none ↦ omega (arith, e, none)
-    | inr few ↦ omega (arith, e, below_power asked, few, short)
+    | inr few ↦ omega (arith, e, short_count first asked few short)
   ]
 
   -- fewer are left, and no order was compared

@@ -38,10 +38,16 @@ pub below_power : (k : ℕ) → k < 2 ^ k
 below_power zero = omega arith
 below_power (suc k) = omega (arith, below_power k, two-pow-succ k)
 
+-- a search among so many that an index reaches counts far fewer
+pub short_count : (many asked : ℕ) → 2 ^ asked ≤ 2 * many → many < 2 ^ 64 → asked + 1 < 2 ^ 64
+short_count many zero few short = omega arith
+short_count many (suc zero) few short = omega arith
+short_count many (suc (suc k)) few short = omega (arith, few, short, below_power k, two-pow-succ k, two-pow-succ (suc k))
+
 module _ (before : ℕ → Bool) (many base size asked : ℕ) (s : IsSearching before many base size asked) where
   -- the count stays far below its limit
-  pub counts_on : many < 2 ^ 64 → (more : ℕ) → more ≡ min (asked + 1) (2 ^ 128 - 1) → more ≡ asked + 1
-  counts_on short more e = omega (arith, e, below_power asked, s.few, short)
+  pub counts_on : many < 2 ^ 64 → (more : ℕ) → more ≡ min (asked + 1) (2 ^ 64 - 1) → more ≡ asked + 1
+  counts_on short more e = omega (arith, e, short_count many asked (omega (arith, s.few)) short)
 
   module _ (more : 1 < size) (half : ℕ) (half_is : half ≡ size / 2) (then : ℕ) (then_is : then ≡ asked + 1) where
     doubled : 2 ^ then ≡ 2 ^ asked + 2 ^ asked
