@@ -1,0 +1,4 @@
+// Overlays by tiles: contours cut and clamped to a rectangle of the plane, around whose points they wind as before.
+#![tactic(auto)]
+
+pub mod tile;

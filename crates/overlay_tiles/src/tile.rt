@@ -1,0 +1,2 @@
+// Tiles of the plane. This project's own.
+pub mod laws;
