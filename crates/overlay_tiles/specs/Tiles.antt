@@ -1,5 +1,6 @@
 -- Tiles of the plane, and contours cut and clamped to them.
-use Rattle.std.specs.Prelude.{ℤ, pos, ◌+ℤ◌, ◌-ℤ◌, ◌*ℤ◌, ◌≤ℤ◌, ◌<ℤ◌, int_lt, Bool, not, ◌&&◌, ◌||◌, if◌then◌else◌, List, [], ◌∷◌, map, flat_map}
+use Rattle.std.specs.Prelude.{ℤ, pos, ◌+ℤ◌, ◌-ℤ◌, ◌*ℤ◌, ◌≤ℤ◌, ◌<ℤ◌, int_lt, int_le, Bool, not, ◌&&◌, ◌||◌, if◌then◌else◌, List, [], ◌∷◌, map, filter, flat_map}
+use Rattle.std.specs.List.{list_all}
 use Rattle.overlay_geometry.specs.Points.{Point, Pair, is_vertical, is_horizontal}
 use Rattle.overlay_geometry.specs.Ranges.{Rect}
 use Rattle.overlay_base.specs.Places.{RationalPoint}
@@ -61,6 +62,10 @@ unfoldable pub parts : Line → Point → Point → Bool
 parts (upright x) u v = is_amid u.x v.x x
 parts (level y) u v = is_amid u.y v.y y
 
+-- the lines of the borders: left, right, lower and upper
+abbrev pub borders : Rect → List Line
+borders tile = upright tile.min_x ∷ upright tile.max_x ∷ level tile.min_y ∷ level tile.max_y ∷ []
+
 -- z of the way from a to b, where the other coordinate goes from c to d: that coordinate, to the nearest whole number, halves upward
 unfoldable pub height_at : ℤ → ℤ → ℤ → ℤ → ℤ → ℤ
 height_at a b c d z = c +ℤ nearest_upward (quotient (d -ℤ c) (z -ℤ a) (b -ℤ a))
@@ -101,3 +106,33 @@ clipped tile points = flat_map (step_points tile) (steps_of points)
 -- the contours of a list, cut and clamped
 abbrev pub all_clipped : Rect → List (List Point) → List (List Point)
 all_clipped tile contours = map (clipped tile) contours
+
+-- ---- contours beside a tile
+
+-- whether all points of a contour lie to the left of the tile, or all to the right, below or above, the line of that border included
+unfoldable pub is_beside : Rect → List Point → Bool
+is_beside tile points =
+    list_all (λ q. int_le q.x tile.min_x) points || list_all (λ q. int_le tile.max_x q.x) points
+    || list_all (λ q. int_le q.y tile.min_y) points || list_all (λ q. int_le tile.max_y q.y) points
+
+-- the contours that do not lie beside the tile
+abbrev pub reaching : Rect → List (List Point) → List (List Point)
+reaching tile contours = filter (λ c. not (is_beside tile c)) contours
+
+-- ---- points that count nowhere in a tile
+
+-- the points that follow u, without those that lie beside the tile together with the last one kept before them and the next one
+unfoldable pub thinned_from : Rect → Point → List Point → List Point
+thinned_from tile u [] = []
+thinned_from tile u (v ∷ []) = v ∷ []
+thinned_from tile u (v ∷ w ∷ points) =
+    if is_beside tile (u ∷ v ∷ w ∷ []) then thinned_from tile u (w ∷ points) else v ∷ thinned_from tile v (w ∷ points)
+
+-- a contour without these: its first and its last point are kept
+unfoldable pub thinned : Rect → List Point → List Point
+thinned tile [] = []
+thinned tile (p ∷ points) = p ∷ thinned_from tile p points
+
+-- what a tile needs of contours: those that do not lie beside it, cut, clamped and thinned
+abbrev pub in_tile : Rect → List (List Point) → List (List Point)
+in_tile tile contours = map (thinned tile) (all_clipped tile (reaching tile contours))

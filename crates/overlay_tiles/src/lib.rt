@@ -1,4 +1,6 @@
 // Overlays by tiles: contours cut and clamped to a rectangle of the plane, around whose points they wind as before.
 #![tactic(auto)]
 
+pub mod clip;
+pub(crate) mod line;
 pub mod tile;

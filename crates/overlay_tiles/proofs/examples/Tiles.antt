@@ -5,7 +5,7 @@ use Rattle.overlay_geometry.specs.Ranges.{Rect}
 use Rattle.overlay_base.specs.Places.{RationalPoint}
 use Rattle.overlay_base.proofs.examples.Words.{neg, point, pair}
 use Rattle.overlay_contours.specs.Contours.{turned, winding_number}
-use Rattle.overlay_tiles.specs.Tiles.{upright, level, cut, cut_path, step_points, clipped, all_clipped}
+use Rattle.overlay_tiles.specs.Tiles.{upright, level, cut, cut_path, step_points, clipped, all_clipped, in_tile}
 use Rattle.overlay_tiles.proofs.examples.Computing.{computing}
 
 abbrev tile : Rect
@@ -64,3 +64,14 @@ middle = record { x = pos 5; y = pos 5; bottom = 1 }
 around_winds : winding_number (all_clipped tile (around ∷ [])) middle ≡ pos 1
 unfolding computing
 around_winds = refl
+
+-- of points in a row on one border the middle ones are left out
+around_in_tile : in_tile tile (around ∷ []) ≡ ((at 0 0 ∷ at 10 0 ∷ at 10 10 ∷ at 0 10 ∷ at 0 0 ∷ []) ∷ [])
+unfolding computing
+around_in_tile = refl
+
+-- ---- a contour that lies beside the tile, up to the line of its left border, is left out
+
+left_of_tile : in_tile tile ((point (neg 5) (neg 5) ∷ at 0 5 ∷ at 0 20 ∷ []) ∷ []) ≡ []
+unfolding computing
+left_of_tile = refl

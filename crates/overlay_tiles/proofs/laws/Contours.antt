@@ -41,7 +41,7 @@ along_append p u (v ∷ xs) ys = ap (λ (z : ℤ). step_winding p (record { a = 
 -- ---- lists without their last point
 
 -- the list has an element
-abbrev IsSome : List Point → Type 0
+abbrev pub IsSome : List Point → Type 0
 IsSome [] = ⊥
 IsSome (p ∷ points) = Unit {0}
 
@@ -60,7 +60,7 @@ refined_some s line u (v ∷ points) h = by (parts line u v)
     by true = tt
     by false = tt
 
-path_some : (tile : Rect) (s : Pair) → IsSome (cut_path tile s)
+pub path_some : (tile : Rect) (s : Pair) → IsSome (cut_path tile s)
 unfolding cut_path
 path_some tile s = refined_some s _ s.a _ (refined_some s _ s.a _ (refined_some s _ s.a _ (refined_some s _ s.a (s.b ∷ []) tt)))
 

@@ -258,6 +258,10 @@ in_range a b f u at = among a b start end f a b u (at_start a b start refl) (at_
     to_end : (f : Fraction) → IsUpTo f end
     to_end f = omega (arith, f.at_most_one)
 
+-- the height of a cut lies between those of the ends
+pub height_among : (a b c d z : ℤ) → IsAmid a b z → IsAmong c d (height_at a b c d z)
+height_among a b c d z amid = let way = cut_way a b c d z amid in in_range c d way.0 _ way.2
+
 amid_ends : (a b : ℤ) (f g : Fraction) (u v z : ℤ) → RoundsTo a b f u → RoundsTo a b g v → IsAmid u v z → IsAmid a b z
 amid_ends a b f g u v z at_u at_v amid = by (in_range a b f u at_u) (in_range a b g v at_v) amid
   where

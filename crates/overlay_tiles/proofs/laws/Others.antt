@@ -27,7 +27,7 @@ along_of R P f u [] h k = tt
 along_of R P f u (v ∷ points) h k = (f u v h k.0, along_of R P f v points k.0 k.1)
 
 -- a contour winds around p no times
-abbrev Nothing : RationalPoint → List Point → Type 0
+abbrev pub Nothing : RationalPoint → List Point → Type 0
 Nothing p c = gathered ◌+ℤ◌ (pos 0) (step_winding p) (steps_of c) ≡ pos 0
 
 contour_none : (p : RationalPoint) (P : Point → Type 0) → ((u v : Point) → P u → P v → CountsNothing p u v) → (c : List Point) → AllByRecursion P c → Nothing p c
@@ -63,22 +63,22 @@ from_above : (m : ℤ) (s : Pair) (p : RationalPoint) → p.y ≤ℤ (m *ℤ pos
 from_above m s p at h k = both_met s p false (above_level m s p h k at) ∙ and_false (spans s p)
 
 module _ (m : ℤ) (p : RationalPoint) (c : List Point) where
-  left_of_all : (m *ℤ pos p.bottom) ≤ℤ p.x → AllByRecursion (λ q. q.x ≤ℤ m) c → Nothing p c
+  pub left_of_all : (m *ℤ pos p.bottom) ≤ℤ p.x → AllByRecursion (λ q. q.x ≤ℤ m) c → Nothing p c
   left_of_all at all =
       contour_none p (λ q. q.x ≤ℤ m)
       (λ u v h k. counts_nothing p (record { a = u; b = v }) (up_to_left m (record { a = u; b = v }) p at k) (up_to_left m (record { a = v; b = u }) p at h)) c all
 
-  right_of_all : p.x <ℤ (m *ℤ pos p.bottom) → AllByRecursion (λ q. m ≤ℤ q.x) c → Nothing p c
+  pub right_of_all : p.x <ℤ (m *ℤ pos p.bottom) → AllByRecursion (λ q. m ≤ℤ q.x) c → Nothing p c
   right_of_all at all =
       contour_none p (λ q. m ≤ℤ q.x)
       (λ u v h k. counts_nothing p (record { a = u; b = v }) (from_right m (record { a = u; b = v }) p at h) (from_right m (record { a = v; b = u }) p at k)) c all
 
-  above_all : p.y ≤ℤ (m *ℤ pos p.bottom) → AllByRecursion (λ q. m ≤ℤ q.y) c → Nothing p c
+  pub above_all : p.y ≤ℤ (m *ℤ pos p.bottom) → AllByRecursion (λ q. m ≤ℤ q.y) c → Nothing p c
   above_all at all =
       contour_none p (λ q. m ≤ℤ q.y)
       (λ u v h k. counts_nothing p (record { a = u; b = v }) (from_above m (record { a = u; b = v }) p at h k) (from_above m (record { a = v; b = u }) p at k h)) c all
 
-  below_all : (m *ℤ pos p.bottom) <ℤ p.y → AllByRecursion (λ q. q.y ≤ℤ m) c → Nothing p c
+  pub below_all : (m *ℤ pos p.bottom) <ℤ p.y → AllByRecursion (λ q. q.y ≤ℤ m) c → Nothing p c
   below_all at all =
       contour_round p (λ q. q.y ≤ℤ m)
       (λ u v h k. counts_change (record { a = u; b = v }) p (below_level m (record { a = u; b = v }) p h k at) (below_level m (record { a = v; b = u }) p k h at)) c all

@@ -1,0 +1,2 @@
+pub mod LineOf
+pub mod Parted
