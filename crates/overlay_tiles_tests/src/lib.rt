@@ -1,0 +1,7 @@
+// Tests of `overlay_tiles`, through its public calls.
+#![tactic(auto)]
+
+#[cfg(test)]
+mod clip;
+#[cfg(test)]
+mod tile;
