@@ -1,0 +1,6 @@
+pub mod Relations
+pub mod Boundaries
+pub mod Refusals
+-- what only contracts of private functions use
+pub mod steps
+pub mod Laws

@@ -1,0 +1,53 @@
+-- Why a relation of two shapes is refused.
+use Rattle.std.specs.Prelude.{⊤, ℤ, IsTrue, IsFalse, List, [], Vec}
+use Rattle.std.specs.Global.{Global}
+use Rattle.overlay_geometry.specs.Points.{Point}
+use Rattle.overlay_geometry.specs.declared.num.OverlayInt.{Ghosts as Engine}
+use Rattle.overlay_geometry.specs.declared.geom.point.IntPoint.{IntPoint}
+use Rattle.overlay_base.specs.declared.overlay_core.fill_rule.FillRule.{FillRule}
+use Rattle.overlay_base.specs.declared.segm.fault.Fault.{Fault}
+use Rattle.overlay_base.specs.declared.segm.fault.Fault.TheVariants.{Memory, CountOutOfRange}
+use Rattle.overlay_base.specs.declared.segm.shape_type.ShapeType.{ShapeType}
+use Rattle.overlay_base.specs.declared.segm.shape_type.ShapeType.TheVariants.{Subject, Clip}
+use Rattle.overlay_contours.specs.ContourSegments.{are_in_range, IsFirstOutside}
+use Rattle.overlay_contours.specs.ContoursOf.{contours_of}
+use Rattle.overlay_contours.specs.Refusals.{of_shape, CountsLeaveRange}
+use Rattle.overlay_contours.specs.Splittings.{by_snapping}
+use Rattle.overlay_contours.specs.declared.fault.ContourFault.TheVariants.{OutOfRange, Refused as RefusedContours}
+use Rattle.overlay_relations.specs.Boundaries.{has_inexact_crossing, IsBoundaryOf}
+use Rattle.overlay_relations.specs.declared.fault.RelationFault.{RelationFault}
+use Rattle.overlay_relations.specs.declared.fault.RelationFault.TheVariants.{NotExact, Refused}
+
+-- The named shape has two edges that cross at a point that is not whole. Where it is the clip, the subject has none.
+abbrev pub IsNotExact : List (List Point) → List (List Point) → ShapeType → Type 0
+IsNotExact subject clip Subject = IsTrue (has_inexact_crossing subject [])
+IsNotExact subject clip Clip = IsFalse (has_inexact_crossing subject []) × IsTrue (has_inexact_crossing clip [])
+
+-- Counts leave the range: those of the edges of one shape, or those of both boundaries.
+pub data CountsOfShapesLeaveRange (fill_rule : FillRule) (subject clip : List (List Point)) : Type 0 where
+  of_subject : CountsLeaveRange by_snapping subject [] → CountsOfShapesLeaveRange fill_rule subject clip
+  of_clip : CountsLeaveRange by_snapping clip [] → CountsOfShapesLeaveRange fill_rule subject clip
+  of_boundaries : (first second : List (List Point)) → IsBoundaryOf fill_rule subject first → IsBoundaryOf fill_rule clip second →
+      CountsLeaveRange by_snapping first second → CountsOfShapesLeaveRange fill_rule subject clip
+
+-- what else is known of a refusal by a fault
+abbrev pub IsReasonFor : FillRule → List (List Point) → List (List Point) → Fault → Type 0
+IsReasonFor fill_rule subject clip Memory = ⊤
+IsReasonFor fill_rule subject clip CountOutOfRange = CountsOfShapesLeaveRange fill_rule subject clip
+
+-- The first point out of range of a shape is named, where there is one. Else a shape with such a crossing is named, a growth was
+-- refused, or counts leave the range.
+abbrev pub IsRefusal : ℤ → ℤ → FillRule → List (List Point) → List (List Point) → RelationFault → Type 0
+IsRefusal least greatest fill_rule subject clip (NotExact shape_type) =
+    IsTrue (are_in_range least greatest subject) × IsTrue (are_in_range least greatest clip) × IsNotExact subject clip shape_type
+IsRefusal least greatest fill_rule subject clip (Refused (OutOfRange shape_type contour point)) =
+    IsFirstOutside least greatest (of_shape shape_type subject clip) contour point
+IsRefusal least greatest fill_rule subject clip (Refused (RefusedContours fault)) =
+    IsTrue (are_in_range least greatest subject) × IsTrue (are_in_range least greatest clip) × IsReasonFor fill_rule subject clip fault
+
+-- The same of contours of code.
+abbrev pub IsRefusalOf : {I : Type 0} → Engine I → FillRule → List (Vec (IntPoint I) Global) → List (Vec (IntPoint I) Global) →
+    RelationFault → Type 0
+IsRefusalOf engine fill_rule subject clip fault =
+    IsRefusal (engine.whole engine.MIN_COORD) (engine.whole engine.MAX_COORD) fill_rule
+    (contours_of engine.whole subject) (contours_of engine.whole clip) fault
