@@ -1,0 +1,5 @@
+// Tests of `overlay_relations`, through its public calls.
+#![tactic(auto)]
+
+#[cfg(test)]
+mod predicates;
