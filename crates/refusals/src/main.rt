@@ -21,8 +21,8 @@ use crate::inserts::Insert;
 use crate::lists::{Balance, Join, Snap, Sort, Split};
 use crate::sweeps::Sweep;
 use crate::wholes::{
-    Contours, KeptArrangement, KeptContours, KeptRules, KeptShapes, LineClip, Overlay, Shapes,
-    Sources,
+    Contours, KeptArrangement, KeptContours, KeptRules, KeptShapes, LineClip, Overlay, Relations,
+    Shapes, Sources,
 };
 use i_overlay::build::scan_list::ScanList;
 use i_overlay::build::scan_tree::ScanTree;
@@ -113,6 +113,7 @@ fn tell_contours(rt: HostRuntime) -> io::Result<()> {
 
 /// Makes the further calls over contours.
 fn tell_kept(rt: HostRuntime) -> io::Result<()> {
+    tell(rt, "relations", "", Relations {})?;
     tell(rt, "sources", "", Sources {})?;
     tell(rt, "two rules", KEPT, KeptRules::new(rt.alloc()))?;
     let arrangement = KeptArrangement::new(rt.alloc());

@@ -1,4 +1,4 @@
-// The whole overlay, lines cut by polygons, and contours, each in one call.
+// The whole overlay, lines cut by polygons, contours, and relations of these, each in one call.
 use crate::case::{Case, Stop, Summary, mixed_index, mixed_point, refused};
 use crate::graphs::{Builder, INSIDE, LineBuilder, summary_of};
 use crate::shapes::{CUT, NO_DATA, Shape, sides};
@@ -22,6 +22,8 @@ use overlay_contours::rounding::Rounding;
 use overlay_contours::sources::{
     SourceContour, overlay_contours_with_sources, overlay_shapes_with_sources,
 };
+use overlay_relations::fault::RelationFault;
+use overlay_relations::predicates::{covers, interiors_meet};
 use std::alloc::Global;
 
 /// An overlay by one splitter and one builder. A refusal leaves the list empty, or the arrangement.
@@ -206,6 +208,27 @@ impl Case for Shapes {
         ) {
             Ok(shapes) => Ok(summary_of_shapes(&shapes)),
             Err(fault) => Err(contour_stop(fault)),
+        }
+    }
+}
+
+/// Whether the interiors of two contours meet, and whether the first covers the second.
+#[derive(Drop)]
+pub struct Relations {}
+
+impl Case for Relations {
+    fn try_once(&mut self, alloc: Global) -> Result<Summary, Stop> {
+        let subject = vec![in alloc; square(0, alloc)?]?;
+        let clip = vec![in alloc; square(2, alloc)?]?;
+        let (solver, fill) = (&Solver::AUTO, FillRule::NonZero);
+        let meet = interiors_meet(alloc, &subject, &clip, solver, fill);
+        match (meet, covers(alloc, &subject, &clip, solver, fill)) {
+            (Ok(meet), Ok(covered)) => Ok(Summary {
+                count: usize::from(meet),
+                others: u128::from(covered),
+                digest: 0,
+            }),
+            (Err(fault), _) | (_, Err(fault)) => Err(relation_stop(fault)),
         }
     }
 }
@@ -400,6 +423,14 @@ fn contour_stop(fault: ContourFault) -> Stop {
     match fault {
         ContourFault::Refused(fault) => refused(fault, true),
         ContourFault::OutOfRange { .. } => Stop::Wrong("a point is out of range"),
+    }
+}
+
+/// Why a relation has no result.
+fn relation_stop(fault: RelationFault) -> Stop {
+    match fault {
+        RelationFault::Refused(fault) => contour_stop(fault),
+        RelationFault::NotExact(_) => Stop::Wrong("edges of a square cross"),
     }
 }
 
