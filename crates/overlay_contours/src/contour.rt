@@ -103,9 +103,19 @@ pub(crate) fn load_sides<I: OverlayInt>(
     ensures fault { IfErr result (λ fault. fault ≡ Memory) }
 {
     sides.clear();
+    sides.reserve_exact(point_count(subject).saturating_add(point_count(clip)))?;
     push_contours(sides, subject, ShapeType::Subject)?;
     push_contours(sides, clip, ShapeType::Clip)?;
     Ok(())
+}
+
+/// How many points contours have.
+fn point_count<I: OverlayInt>(contours: &[IntContour<I>]) -> usize {
+    let mut count = 0_usize;
+    for contour in contours {
+        count = count.saturating_add(contour.len());
+    }
+    count
 }
 
 /// Appends the segments of contours of one shape.

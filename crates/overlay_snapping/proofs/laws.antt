@@ -3,6 +3,7 @@ pub mod pixels
 pub mod chains
 pub mod planarity
 pub mod point_trees
+pub mod cells
 pub mod closure
 pub mod cuts
 pub mod counting

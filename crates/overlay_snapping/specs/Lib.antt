@@ -4,6 +4,8 @@ pub mod HotOf
 pub mod Counts
 pub mod CutsOf
 pub mod PointTreeOf
+pub mod PointGridOf
+pub mod PointFinderOf
 pub mod SnapOf
 pub mod SolverOf
 -- what only contracts of private functions use

@@ -6,3 +6,6 @@ pub mod Cutting
 pub mod Batches
 pub mod Resolved
 pub mod LineWalks
+pub mod Cells
+pub mod Met
+pub mod Recorded

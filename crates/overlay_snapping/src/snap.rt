@@ -1,10 +1,14 @@
 // Pixels, the segments that meet them, the closure, and the cuts. This project's own.
 
 mod batches;
+pub mod cells;
 mod closure;
 mod collinear;
 pub mod cut_finder;
 pub mod laws;
+mod meetings;
 pub mod pixel;
+pub mod point_finder;
+mod point_grid;
 pub mod point_tree;
 pub mod solver;

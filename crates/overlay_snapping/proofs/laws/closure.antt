@@ -1,4 +1,4 @@
--- What is hot and what moves, found step by step.
-pub mod Flags
-pub mod Steps
-pub mod Sets
+-- What is hot, found by repetition.
+pub mod Elements
+pub mod Repetitions
+pub mod Movers

@@ -1,10 +1,9 @@
 -- What the steps of a search for cuts collect.
 use Rattle.std.specs.Prelude.{ℕ, ℤ, pos, Bool, not, List, map, filter, slice_index_or}
-use Rattle.overlay_geometry.specs.Points.{Point, Pair, is_end, lies_on}
+use Rattle.overlay_geometry.specs.Points.{Point, Pair, lies_on}
 use Rattle.overlay_geometry.specs.PointOf.{point_of}
 use Rattle.overlay_intersections.specs.MarkOf.{Mark, mark_of}
 use Rattle.overlay_intersections.specs.declared.split.line_mark.LineMark.{LineMark}
-use Rattle.overlay_snapping.specs.Pixels.{met_places}
 
 -- what stands for a point where a list has none
 abbrev pub origin : Point
@@ -27,7 +26,3 @@ points_off whole segments marks = map (λ m. point_of whole m.point) (filter (λ
 -- the points of those marks of code that lie on s
 abbrev pub points_along : {I : Type 0} → (I → ℤ) → Pair → List (LineMark I) → List Point
 points_along whole s marks = map (λ m. point_of whole m.point) (filter (λ m. lies_on s (point_of whole m.point)) marks)
-
--- those of a list of points whose pixels s meets, but for its ends
-abbrev pub met_between : Pair → List Point → List Point
-met_between s points = map (point_at points) (filter (λ place. not (is_end s (point_at points place))) (met_places s points))

@@ -1,9 +1,9 @@
 // The points at which snap rounding cuts the segments of a list, found from the marks of a settling pass. This project's
 // own.
-ghost use Rattle.std.specs.Prelude.{◌≡◌, ◌<◌, ◌≤◌, ◌≢◌, ◌++◌, ◌-◌, ◌^◌, IsTrue, IsFalse, true, IsSortedByKey};
+ghost use Rattle.std.specs.Prelude.{◌≡◌, ◌<◌, ◌≤◌, ◌≢◌, ◌++◌, ◌-◌, ◌^◌, IsTrue, IsFalse, true};
 ghost use Rattle.std.specs.Prelude.{All, List, IfOk, OnOk, map, length};
 ghost use Rattle.std.specs.List.{AllWithin, HoldsAt};
-ghost use Rattle.overlay_geometry.specs.Points.{is_ordered, is_end};
+ghost use Rattle.overlay_geometry.specs.Points.{is_ordered};
 ghost use Rattle.overlay_geometry.specs.PointOf.{point_of};
 ghost use Rattle.overlay_geometry.specs.PairOf.{pair_of};
 ghost use Rattle.overlay_geometry.specs.InRange.{IsPointInRange, IsPairInRange};
@@ -13,15 +13,19 @@ ghost use Rattle.overlay_base.specs.ArrangedOf.{AreInRange};
 ghost use Rattle.overlay_intersections.specs.MarkOf.{AreMarksOf};
 ghost use Rattle.overlay_intersections.specs.declared.split.line_mark.LineMark.{LineMark};
 ghost use Rattle.overlay_intersections.specs.declared.split.placing.Placing.TheVariants.{Settling};
-ghost use Rattle.overlay_snapping.specs.PointTreeOf.{points_in};
 ghost use Rattle.overlay_snapping.specs.HotOf.{KnowsHot};
 ghost use Rattle.overlay_snapping.specs.CutsOf.{AreCutsOf, AreMarksAt, AreCutsAt};
 ghost use Rattle.overlay_snapping.specs.steps.Batches.{HasCut};
-ghost use Rattle.overlay_snapping.specs.steps.Cutting.{points_on, points_off, points_along, met_between};
+ghost use Rattle.overlay_snapping.specs.PointFinderOf.{points_of, points_in};
+ghost use Rattle.overlay_snapping.specs.steps.Met.{AddsAllMet};
+ghost use Rattle.overlay_snapping.specs.steps.Recorded.{IsRecorded};
+ghost use Rattle.overlay_snapping.specs.steps.Cutting.{points_on, points_off, points_along};
 
+use crate::snap::cells::CellSize;
 use crate::snap::closure::Closure;
+use crate::snap::meetings::{Meetings, append};
 use crate::snap::pixel::lies_on;
-use crate::snap::point_tree::PointTree;
+use crate::snap::point_finder::PointFinder;
 use overlay_base::segm::segment::Segment;
 use overlay_base::segm::winding::WindingCount;
 use overlay_geometry::geom::point::IntPoint;
@@ -35,13 +39,12 @@ use std::alloc::{AllocError, Global};
 /// That memory is in proportion to the segments and their marks: what a segment meets is found again for each segment.
 #[derive(Drop)]
 pub struct CutFinder<I: OverlayInt> {
-    points: Vec<IntPoint<I>>,
-    rounded: Vec<IntPoint<I>>,
     /// The ends of the segments and the marks that lie on them.
-    given: PointTree<I>,
-    pub(crate) hot: PointTree<I>,
+    given: Vec<IntPoint<I>>,
+    /// The points that are found to be hot: at first the other marks.
+    found: Vec<IntPoint<I>>,
+    pub(crate) hot: PointFinder<I>,
     closure: Closure<I>,
-    met: Vec<usize>,
     between: Vec<IntPoint<I>>,
 }
 
@@ -49,12 +52,10 @@ impl<I: OverlayInt> CutFinder<I> {
     /// A finder that holds no memory yet.
     pub fn new(alloc: Global) -> Self {
         CutFinder {
-            points: Vec::new(alloc),
-            rounded: Vec::new(alloc),
-            given: PointTree::new(alloc),
-            hot: PointTree::new(alloc),
+            given: Vec::new(alloc),
+            found: Vec::new(alloc),
+            hot: PointFinder::new(alloc),
             closure: Closure::new(alloc),
-            met: Vec::new(alloc),
             between: Vec::new(alloc),
         }
     }
@@ -111,15 +112,13 @@ impl<I: OverlayInt> CutFinder<I> {
         requires marks { AreMarksOf Settling segments.now marks.now }
         ensures known { OnOk result (KnowsHot (segments_of segments.now) self.new) }
     {
-        collect_ends(segments, &mut self.points)?;
-        part_marks(segments, marks, &mut self.points, &mut self.rounded)?;
-        self.rounded.sort()?;
-        self.given.fill(&self.points)?;
+        collect_ends(segments, &mut self.given)?;
+        part_marks(segments, marks, &mut self.given, &mut self.found)?;
         self.closure.close(
             segments,
-            &self.rounded,
+            CellSize::of(segments),
             &self.given,
-            &mut self.met,
+            &mut self.found,
             &mut self.hot,
         )
     }
@@ -147,7 +146,14 @@ impl<I: OverlayInt> CutFinder<I> {
         ensures known { KnowsHot (segments_of segments.now) self.new }
     {
         let segment = segments[index].x_segment();
-        collect_between(&segment, own, &self.hot, &mut self.met, &mut self.between)?;
+        collect_along(&segment, own, &mut self.between)?;
+        append_hot(
+            &segment,
+            index,
+            &self.closure.meetings,
+            &mut self.hot,
+            &mut self.between,
+        )?;
         self.between.sort()?;
         self.between.dedup();
         for point in &self.between {
@@ -215,20 +221,15 @@ fn part_marks<C: WindingCount, I: OverlayInt, D: Copy>(
     Ok(())
 }
 
-/// The marks of a segment that lie on it, and the points of a tree whose pixels it meets, but for its ends.
-fn collect_between<I: OverlayInt>(
+/// The marks of a segment that lie on it.
+fn collect_along<I: OverlayInt>(
     segment: &XSegment<I>,
     own: &[LineMark<I>],
-    hot: &PointTree<I>,
-    met: &mut Vec<usize>,
     between: &mut Vec<IntPoint<I>>,
 ) -> Result<(), AllocError>
     requires in_range { IsPairInRange I.whole I.MIN_COORD I.MAX_COORD segment.now }
-    requires ordered { IsTrue (is_ordered (pair_of I.whole segment.now)) }
     requires own { All (λ m. IsPointInRange I.whole I.MIN_COORD I.MAX_COORD m.point) own.now }
-    ensures { OnOk result (map (point_of I.whole) between.new.items
-        ≡ points_along I.whole (pair_of I.whole segment.now) own.now
-        ++ met_between (pair_of I.whole segment.now) (points_in hot.now)) }
+    ensures { OnOk result (map (point_of I.whole) between.new.items ≡ points_along I.whole (pair_of I.whole segment.now) own.now) }
 {
     between.clear();
     for mark in own {
@@ -236,21 +237,26 @@ fn collect_between<I: OverlayInt>(
             between.push(mark.point)?;
         }
     }
-    met.clear();
-    hot.append_met(segment, met)?;
-    let points = hot.points();
-    for place in &*met {
-        let point = points[*place];
-        if !is_end(segment, point) {
-            between.push(point)?;
-        }
-    }
     Ok(())
 }
 
-/// Whether a point is an end of a segment.
-fn is_end<I: OverlayInt>(segment: &XSegment<I>, point: IntPoint<I>) -> bool
-    ensures { result ≡ is_end (pair_of I.whole segment.now) (point_of I.whole point) }
+/// Appends the hot points that a segment meets between its ends, from what is recorded of it, if that is there.
+fn append_hot<I: OverlayInt>(
+    segment: &XSegment<I>,
+    index: usize,
+    meetings: &Meetings<I>,
+    hot: &mut PointFinder<I>,
+    between: &mut Vec<IntPoint<I>>,
+) -> Result<(), AllocError>
+    requires in_range { IsPairInRange I.whole I.MIN_COORD I.MAX_COORD segment.now }
+    requires ordered { IsTrue (is_ordered (pair_of I.whole segment.now)) }
+    requires recorded { IsRecorded (pair_of I.whole segment.now) (points_in hot.old) meetings.now index }
+    ensures met { OnOk result (AddsAllMet (pair_of I.whole segment.now) (points_in hot.old) (map (point_of I.whole) between.old.items)
+        (map (point_of I.whole) between.new.items)) }
+    ensures same { points_of hot.new ≡ points_of hot.old }
 {
-    point == segment.a || point == segment.b
+    match meetings.get(index) {
+        Some(met) => append(between, met),
+        None => hot.append_met(segment, between),
+    }
 }

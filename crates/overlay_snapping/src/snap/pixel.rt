@@ -1,7 +1,7 @@
 // Whether a segment meets the pixel of a whole point. This project's own.
 ghost use Rattle.std.specs.Prelude.{◌≡◌, ◌&&◌, ◌*◌, ◌≤◌, ◌*ℤ◌, pos, nat_lt, unsigned_abs, IsTrue};
 ghost use Rattle.std.specs.Ordering.{int_eq};
-ghost use Rattle.overlay_geometry.specs.Points.{is_ordered, is_between, cross_product, lies_on};
+ghost use Rattle.overlay_geometry.specs.Points.{is_ordered, is_between, is_end, cross_product, lies_on};
 ghost use Rattle.overlay_geometry.specs.PointOf.{point_of};
 ghost use Rattle.overlay_geometry.specs.PairOf.{pair_of};
 ghost use Rattle.overlay_geometry.specs.VectorOf.{vector_of};
@@ -38,6 +38,13 @@ pub(crate) fn lies_on<I: OverlayInt>(segment: &XSegment<I>, point: IntPoint<I>) 
     let way = IntVector::between(segment.a, segment.b);
     let to = IntVector::between(segment.a, point);
     Triangle::is_line(segment.a, segment.b, point) && is_in_box(way, to)
+}
+
+/// Whether a point is an end of a segment.
+pub(crate) fn is_end<I: OverlayInt>(segment: &XSegment<I>, point: IntPoint<I>) -> bool
+    ensures { result ≡ is_end (pair_of I.whole segment.now) (point_of I.whole point) }
+{
+    point == segment.a || point == segment.b
 }
 
 /// Whether the second way ends in the box that has the first as a diagonal.

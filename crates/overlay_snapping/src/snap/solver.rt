@@ -40,7 +40,7 @@ use overlay_split::split::finder::PairFinder;
 use overlay_split::split::pass::pass_at;
 use overlay_tree::split::solver_tree::TreeBuffers;
 use std::alloc::Global;
-use std::mem::replace;
+use std::mem::{replace, swap};
 
 /// So many cuts are listed for each segment and each mark before segments are cut some at a time: with these, most lists are
 /// cut at once.
@@ -216,7 +216,8 @@ impl<I: OverlayInt> SnapSolver<I> {
         requires map { IsTrue (is_map (segments_of segments.now)) }
         requires splittable { IsSplittable segments.now }
         ensures cuts { IfOk result (λ found. IsTrue found.are_listed → AreCutsOf segments.now self.new.cuts.items) }
-        ensures marks { OnOk result (AreMarksOf Settling segments.now self.new.marks.items) }
+        ensures marks { IfOk result (λ found. IsFalse found.are_listed
+            → AreMarksOf Settling segments.now self.new.marks.items) }
         ensures known { IfOk result (λ found. IsFalse found.are_listed
             → KnowsHot (segments_of segments.now) self.new.finder) }
         ensures some { IfOk result (λ found. IsFalse found.are_listed → HasCut (segments_of segments.now)) }
@@ -244,8 +245,7 @@ impl<I: OverlayInt> SnapSolver<I> {
             });
         }
         // where every crossing is a whole point nothing moves
-        self.cuts.clear();
-        self.cuts.extend_from_slice(self.marks.as_slice())?;
+        swap(&mut self.cuts, &mut self.marks);
         Ok(Found {
             is_rounded,
             are_listed: true,
@@ -264,7 +264,7 @@ impl<I: OverlayInt> SnapSolver<I> {
         requires map { IsTrue (is_map (segments_of list.old.items)) }
         requires splittable { IsSplittable list.old.items }
         requires cuts { IsTrue found.are_listed → AreCutsOf list.old.items self.old.cuts.items }
-        requires marks { AreMarksOf Settling list.old.items self.old.marks.items }
+        requires marks { IsFalse found.are_listed → AreMarksOf Settling list.old.items self.old.marks.items }
         requires known { IsFalse found.are_listed → KnowsHot (segments_of list.old.items) self.old.finder }
         requires some { IsFalse found.are_listed → HasCut (segments_of list.old.items) }
         requires small { IsFalse found.are_listed → magnitudes (segments_of list.old.items) < 2 ^ 31 }

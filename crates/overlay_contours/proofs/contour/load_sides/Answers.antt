@@ -21,7 +21,7 @@ returns g c =
     let greatest = whole g.I.OverlayInt.MAX_COORD in
     let subject : List (List Point) = contours_of whole c.args.subject.now in
     let clip : List (List Point) = contours_of whole c.args.clip.now in
-    let first : segments_of c.push_contours.new.sides.items ≡ contour_segments Subject subject = c.in_ok-push_contours.ensures.sides ∙ ap (λ (l : _). segments_of l ++ contour_segments Subject subject) c.clear.ensures.items in
+    let first : segments_of c.push_contours.new.sides.items ≡ contour_segments Subject subject = c.in_ok-push_contours.ensures.sides ∙ ap (λ (l : _). segments_of l ++ contour_segments Subject subject) (c.reserve_exact.ensures.items ∙ c.clear.ensures.items) in
     let e : segments_of c.push_contours-2.new.sides.items ≡ overlay_segments subject clip = c.in_ok-push_contours-2.ensures.sides ∙ ap (λ (l : List WholeSegment). l ++ contour_segments Clip clip) first in
     record {
       segments = e;

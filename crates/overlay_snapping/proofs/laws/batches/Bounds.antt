@@ -1,9 +1,8 @@
 -- Joins of pieces some at a time: where counts on a pair are small, no running sum leaves the range; a join makes them no greater.
-use Rattle.std.proofs.Common.{◌≡◌, ℕ, ◌+◌, ◌^◌, ◌≤◌, ◌<◌, Bool, true, false, cond, List, [], ◌∷◌, ◌++◌, filter, not, ◌||◌, Ordering, Less, Equal, Greater, lt-ltb, refl, sym, ap, ap₂, subst, ◌∙◌, arith, IsTrue, IsFalse}
+use Rattle.std.proofs.Common.{◌≡◌, ◌+◌, ◌^◌, ◌≤◌, ◌<◌, Bool, true, false, cond, List, [], ◌∷◌, ◌++◌, not, ◌||◌, Less, lt-ltb, refl, sym, ap, ap₂, subst, ◌∙◌, arith, IsFalse}
 use Rattle.std.specs.Prelude.{ℤ, ◌+ℤ◌, unsigned_abs}
 use Rattle.std.specs.List.{AllByRecursion, list_any}
 use Rattle.std.proofs.lemmas.Int.{ints}
-use Rattle.std.proofs.lemmas.List.Sums.{sum_by-cons, sum_by-append}
 use Rattle.overlay_geometry.specs.Points.{Pair, pair_cmp, pair_eq}
 use Rattle.overlay_base.specs.Windings.{Winding, empty, add, is_count_in_range}
 use Rattle.overlay_base.specs.Segments.{WholeSegment, pairs, segments_at, winding_at}
@@ -12,10 +11,10 @@ use Rattle.overlay_base.specs.steps.Early.{magnitude, magnitudes}
 use Rattle.overlay_geometry.proofs.laws.geometry.Points.{same_pair_by_eq}
 use Rattle.overlay_base.proofs.laws.geometry.Pairs.{pair_eq-greater}
 use Rattle.std.proofs.lemmas.Bool.{and_from}
-use Rattle.overlay_base.proofs.laws.counts.Windings.{add_comm, add_assoc, empty-add, add-empty}
-use Rattle.overlay_base.proofs.laws.joins.Bags.{count_at, winding_at-nil, winding_at-cons, winding_at-append, winding_at-join}
-use Rattle.overlay_base.proofs.laws.joins.Early.{small_counts_stay, magnitudes-cons}
-use Rattle.overlay_base.proofs.laws.joins.Maps.{IsSummed, IsSummed-join, IsSummed-tail, winding_at-below, winding_at-head, tail_sorted}
+use Rattle.overlay_base.proofs.laws.counts.Windings.{empty-add}
+use Rattle.overlay_base.proofs.laws.joins.Bags.{count_at, winding_at-nil, winding_at-cons, winding_at-join}
+use Rattle.overlay_base.proofs.laws.joins.Early.{magnitudes-cons}
+use Rattle.overlay_base.proofs.laws.joins.Maps.{IsSummed, IsSummed-join, IsSummed-tail, winding_at-head, tail_sorted}
 use Rattle.overlay_base.proofs.laws.joins.Ranges.{sums_leave, sums_leave-nil, sums_leave-same, sums_leave-other, join_leaves_range-sums}
 use Rattle.overlay_snapping.specs.steps.Batches.{magnitudes_at}
 

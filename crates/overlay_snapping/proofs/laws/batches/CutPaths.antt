@@ -1,15 +1,15 @@
 -- The path of one segment through its cuts, and the pieces along it.
-use Rattle.std.proofs.Common.{◌≡◌, ◌∙◌, refl, sym, ap, subst, IsTrue, IsFalse, List, [], ◌∷◌, ◌++◌, map}
+use Rattle.std.proofs.Common.{◌≡◌, ◌∙◌, refl, sym, ap, subst, IsTrue, IsFalse, List, [], ◌∷◌, ◌++◌}
 use Rattle.std.specs.Prelude.{All}
 use Rattle.std.specs.List.{AllByRecursion}
 use Rattle.std.proofs.lemmas.List.{map-append}
 use Rattle.std.proofs.lemmas.List.Elements.{All-from_recursion, recursion_from_All}
 use Rattle.overlay_geometry.specs.Points.{Point, Pair, point_cmp, is_ordered, is_end}
-use Rattle.overlay_geometry.specs.Sorting.{distinct_in_order, is_strictly_sorted}
+use Rattle.overlay_geometry.specs.Sorting.{is_strictly_sorted}
 use Rattle.overlay_geometry.proofs.laws.geometry.Points.{not_end, point_cmp_total}
 use Rattle.overlay_geometry.proofs.laws.lists.Keys.{IsStrictlySortedBy-from_test}
 use Rattle.overlay_geometry.proofs.laws.lists.Lists.{AllByRecursion-weaker, AllByRecursion-append}
-use Rattle.overlay_base.specs.EdgeData.{DataSegment, Hooks, without_data}
+use Rattle.overlay_base.specs.EdgeData.{Hooks, without_data}
 use Rattle.overlay_base.specs.SegmentOf.{segments_of, data_segments_of, winding_of}
 use Rattle.overlay_base.specs.Segments.{WholeSegment}
 use Rattle.overlay_base.specs.Windings.{Winding, is_valid}

@@ -1,5 +1,5 @@
 -- Where the hot points are known, a function names the points at which each segment is cut.
-use Rattle.std.proofs.Common.{◌≡◌, ◌≤◌, ◌<◌, ℕ, arith, [], length, ◌∷◌, ⊎_elim, inl, inr, refl, Bool, not, ◌&&◌, IsTrue, IsFalse, List, ◌++◌, filter}
+use Rattle.std.proofs.Common.{◌≤◌, ◌<◌, ℕ, arith, [], length, ◌∷◌, ⊎_elim, refl, Bool, not, ◌&&◌, IsTrue, List, ◌++◌, filter}
 use Rattle.std.specs.Prelude.{Contains, slice_index_or}
 use Rattle.std.proofs.lemmas.Bool.{and_parts, and_from, not-true}
 use Rattle.overlay_geometry.specs.Points.{Point, Pair, point_cmp, is_end, lies_on}
@@ -13,10 +13,10 @@ use Rattle.overlay_base.specs.Windings.{empty}
 use Rattle.overlay_intersections.specs.MarkOf.{Mark, points_at}
 use Rattle.overlay_intersections.specs.Marks.{settling}
 use Rattle.overlay_intersections.specs.PassMarks.{marks_on}
-use Rattle.overlay_snapping.specs.Chains.{AreSnapCuts, AreDecided, IsCutAt}
+use Rattle.overlay_snapping.specs.Chains.{AreSnapCuts, AreDecided}
 use Rattle.overlay_snapping.specs.HotOf.{AreHotPoints, KnowsHot}
 use Rattle.overlay_snapping.specs.Pixels.{meets_pixel}
-use Rattle.overlay_snapping.specs.PointTreeOf.{points_in}
+use Rattle.overlay_snapping.specs.PointFinderOf.{points_in}
 use Rattle.overlay_snapping.specs.declared.snap.cut_finder.CutFinder.{CutFinder}
 use Rattle.overlay_snapping.specs.steps.Batches.{HasCut}
 use Rattle.overlay_snapping.proofs.laws.cuts.Added.{AreCutsBelow}

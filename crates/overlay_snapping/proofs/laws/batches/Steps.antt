@@ -1,12 +1,12 @@
 -- One turn of the walk over segments of code: the cuts of one more segment, its pieces, and the join of what is held.
-use Rattle.std.proofs.Common.{◌≡◌, ◌∙◌, refl, sym, ap, subst, arith, ℕ, ◌+◌, ◌<◌, ◌^◌, ◌&&◌, Bool, true, false, IsTrue, IsFalse, List, [], ◌∷◌, ◌++◌, map, take, length, get_or}
+use Rattle.std.proofs.Common.{◌≡◌, ◌∙◌, refl, sym, ap, subst, arith, ℕ, ◌+◌, ◌<◌, ◌^◌, true, IsTrue, IsFalse, List, [], ◌∷◌, ◌++◌, take, length, get_or}
 use Rattle.std.specs.Prelude.{All, Contains, nat_lt}
 use Rattle.std.specs.List.{AllByRecursion, list_all}
 use Rattle.std.proofs.lemmas.Bool.{and_parts, and_from, both_ways}
 use Rattle.std.proofs.lemmas.List.{length-map, take_more}
 use Rattle.std.proofs.lemmas.List.Elements.{All-from_recursion, recursion_from_All}
 use Rattle.std.proofs.lemmas.List.Sums.{sum_by-take-le}
-use Rattle.overlay_geometry.specs.Points.{Point, Pair, point_cmp, is_end}
+use Rattle.overlay_geometry.specs.Points.{Point, point_cmp, is_end}
 use Rattle.overlay_geometry.specs.Sorting.{is_strictly_sorted}
 use Rattle.overlay_geometry.proofs.laws.lists.Elements.{Contains-from_Has}
 use Rattle.overlay_geometry.proofs.laws.lists.Lists.{AllByRecursion-from_Has, list_all-and}
@@ -22,7 +22,7 @@ use Rattle.overlay_base.proofs.laws.joins.Members.{masks-join, counts_in_range-j
 use Rattle.overlay_intersections.specs.MarkOf.{mark_points_of}
 use Rattle.overlay_intersections.specs.declared.split.line_mark.LineMark.{LineMark}
 use Rattle.overlay_split.specs.Path.{pieces}
-use Rattle.overlay_snapping.specs.Chains.{AreCutsBetween, AreSnapCuts, AreDecided}
+use Rattle.overlay_snapping.specs.Chains.{AreCutsBetween, AreDecided}
 use Rattle.overlay_snapping.specs.CutsOf.{AreCutsAt}
 use Rattle.overlay_snapping.specs.steps.Batches.{IsCutSoFar, HasCuts, ForCuts}
 use Rattle.overlay_snapping.proofs.laws.batches.CutLists.{cuts_are_few}

@@ -78,7 +78,7 @@ mark_is_by segments s c h =
 
 -- ---- crossings
 
-end_lies_on : (s : Pair) (c : Point) → Before s.a s.b → lies_on s c ≡ false → is_end s c ≡ false
+pub end_lies_on : (s : Pair) (c : Point) → Before s.a s.b → lies_on s c ≡ false → is_end s c ≡ false
 end_lies_on s c o h = false_from_ne_true (is_end s c) (λ e. both_ways (lies_on s c) h (end_on (end_cases s c e)))
   where
     end_on : (c ≡ s.a) ⊎ (c ≡ s.b) → lies_on s c ≡ true

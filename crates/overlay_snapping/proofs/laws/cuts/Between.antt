@@ -1,17 +1,16 @@
 -- The marks of a segment that lie on it and the hot points that it meets, in order and each once, are its cuts.
 use Rattle.std.proofs.Common.{◌≡◌, refl, sym, ap, subst, ◌∙◌, ⊎_elim, ◌↔◌, ℕ, ◌+◌, ◌<◌, ◌≤◌, Bool, not, ◌&&◌, List, [], ◌∷◌, ◌++◌, map, length, take, take_all, get_or, append_assoc, Ordering}
-use Rattle.std.specs.Prelude.{ℤ, Contains, IsTrue, IsFalse, IsPermutation, IsSorted, slice_index_or}
+use Rattle.std.specs.Prelude.{ℤ, Contains, IsTrue, IsPermutation, IsSorted, slice_index_or}
 use Rattle.std.specs.List.{AllByRecursion, dedup}
 use Rattle.std.specs.List.Retain.{IsFiltered, DiffersFromLast}
 use Rattle.std.specs.List.Sorted.{IsStrictlySortedBy}
 use Rattle.std.specs.Ordering.{int_cmp, eq_by_cmp}
-use Rattle.std.proofs.lemmas.Bool.{not-true}
+use Rattle.std.proofs.lemmas.Bool.{not-true, and_parts, and_from}
 use Rattle.std.proofs.lemmas.Cmp.{on_total}
 use Rattle.std.proofs.lemmas.List.{map-append}
 use Rattle.std.proofs.lemmas.List.Elements.{All-from_recursion, Contains-append_cases, Contains-append_left, Contains-append_right}
 use Rattle.std.proofs.lemmas.List.Filters.{dedup_is}
 use Rattle.std.proofs.lemmas.List.Kept.{IsStrictlySortedBy-dedup}
-use Rattle.std.proofs.lemmas.Option.{get_or_from_slice_get}
 use Rattle.overlay_geometry.specs.Points.{Point, Pair, point_cmp, is_end, lies_on}
 use Rattle.overlay_geometry.specs.PointOf.{point_of}
 use Rattle.overlay_geometry.specs.declared.geom.point.IntPoint.{IntPoint}
@@ -27,24 +26,24 @@ use Rattle.overlay_intersections.specs.MarkOf.{mark_points_of}
 use Rattle.overlay_intersections.specs.PassMarks.{marks_on}
 use Rattle.overlay_intersections.specs.declared.split.line_mark.LineMark.{LineMark}
 use Rattle.overlay_intersections.proofs.laws.marks.Comparisons.{same_points}
-use Rattle.overlay_snapping.specs.Pixels.{meets_pixel, met_places}
+use Rattle.overlay_snapping.specs.Pixels.{meets_pixel}
 use Rattle.overlay_snapping.specs.Chains.{AreDecided, AreCutsBetween}
 use Rattle.overlay_snapping.specs.CutsOf.{AreCutsAt}
 use Rattle.overlay_snapping.specs.HotOf.{AreHotPoints}
-use Rattle.overlay_snapping.specs.steps.Cutting.{point_at, points_along, met_between, origin}
+use Rattle.overlay_snapping.specs.steps.Cutting.{points_along}
+use Rattle.overlay_snapping.specs.steps.Met.{AddsAllMet}
 use Rattle.overlay_snapping.proofs.laws.chains.HotCuts.{IsFoundCut, marked, met, found_is_cut, cut_is_found}
-use Rattle.overlay_snapping.proofs.laws.closure.Sets.{mapped}
-use Rattle.overlay_snapping.proofs.laws.closure.Steps.{found_at, contained}
+use Rattle.overlay_snapping.proofs.laws.closure.Elements.{mapped}
 use Rattle.overlay_snapping.proofs.laws.cuts.Collected.{Contains-collected, collected-Contains}
-use Rattle.overlay_snapping.proofs.laws.cuts.Places.{place_out, place_in}
 use Rattle.overlay_snapping.proofs.laws.point_trees.Columns.{listed_same}
 use Rattle.overlay_snapping.proofs.laws.point_trees.MetPlaces.{taken_next}
 
 -- ---- what is listed
 
-module _ {I : Type 0} (whole : I → ℤ) (segments : List WholeSegment) (points : List Point) (hot : AreHotPoints (pairs segments) points) (s : Pair) (own : List (LineMark I)) (are : mark_points_of whole own ≡ marks_on settling segments s) where
-  listed_out : (c : Point) → Contains (points_along whole s own ++ met_between s points) c → IsFoundCut segments s c
-  listed_out c h = ⊎_elim along meeting (Contains-append_cases (points_along whole s own) (met_between s points) c h)
+module _ {I : Type 0} (whole : I → ℤ) (segments : List WholeSegment) (points : List Point) (hot : AreHotPoints (pairs segments) points) (s : Pair) (own : List (LineMark I)) (are : mark_points_of whole own ≡ marks_on settling segments s)
+    (listed : List Point) (adds : AddsAllMet s points (points_along whole s own) listed) where
+  listed_out : (c : Point) → Contains listed c → IsFoundCut segments s c
+  listed_out c h = ⊎_elim along meeting (Contains-append_cases (points_along whole s own) adds.added c (subst (λ (l : List Point). Contains l c) adds.is h))
     where
       along : Contains (points_along whole s own) c → IsFoundCut segments s c
       along i =
@@ -52,28 +51,24 @@ module _ {I : Type 0} (whole : I → ℤ) (segments : List WholeSegment) (points
           let there = Contains-from_Has (mark_points_of whole own) (point_of whole r.0.point) (Has-map (λ (m : LineMark I). point_of whole m.point) own r.0 (Has-from_Contains own r.0 r.1)) in
           marked (subst (λ (q : Point). Contains (marks_on settling segments s) q) r.3 (subst (λ (l : List Point). Contains l (point_of whole r.0.point)) are there)) (subst (λ (q : Point). IsTrue (lies_on s q)) r.3 r.2)
 
-      meeting : Contains (met_between s points) c → IsFoundCut segments s c
+      meeting : Contains adds.added c → IsFoundCut segments s c
       meeting i =
-          let r = Contains-collected (λ (k : ℕ). not (is_end s (point_at points k))) (point_at points) (met_places s points) c i in
-          let k = place_out s points r.0 r.1 in
-          let same : k.0 ≡ c = sym (get_or_from_slice_get points r.0 k.0 origin k.1) ∙ r.3 in
-          let there : Contains points c = subst (λ (q : Point). Contains points q) same (contained points r.0 k.0 k.1) in
-          met ((hot c).0 there) (subst (λ (q : Point). IsTrue (meets_pixel s q)) same k.2) (subst (λ (q : Point). IsFalse (is_end s q)) r.3 (not-true (is_end s (point_at points r.0)) r.2))
+          let r = adds.only c i in
+          let both = and_parts (meets_pixel s c) (not (is_end s c)) r.1 in
+          met ((hot c).0 r.0) both.0 (not-true (is_end s c) both.1)
 
-  listed_in : (c : Point) → IsFoundCut segments s c → Contains (points_along whole s own ++ met_between s points) c
+  listed_in : (c : Point) → IsFoundCut segments s c → Contains listed c
   listed_in c (marked m on) =
       let there = subst (λ (l : List Point). Contains l c) (sym are) m in
       let r = Has-map_out (λ (m : LineMark I). point_of whole m.point) own c (Has-from_Contains (mark_points_of whole own) c there) in
-      Contains-append_left (points_along whole s own) (met_between s points) c
+      subst (λ (l : List Point). Contains l c) (sym adds.is)
+      (Contains-append_left (points_along whole s own) adds.added c
       (subst (λ (q : Point). Contains (points_along whole s own) q) r.2
-      (collected-Contains (λ (m : LineMark I). lies_on s (point_of whole m.point)) (λ m. point_of whole m.point) own r.0 (Contains-from_Has own r.0 r.1) (subst (λ (q : Point). IsTrue (lies_on s q)) (sym r.2) on)))
+      (collected-Contains (λ (m : LineMark I). lies_on s (point_of whole m.point)) (λ m. point_of whole m.point) own r.0 (Contains-from_Has own r.0 r.1) (subst (λ (q : Point). IsTrue (lies_on s q)) (sym r.2) on))))
   listed_in c (met t k n) =
-      let at = found_at points c ((hot c).1 t) in
-      let same : point_at points at.0 ≡ c = get_or_from_slice_get points at.0 c origin at.1 in
-      Contains-append_right (points_along whole s own) (met_between s points) c
-      (subst (λ (q : Point). Contains (met_between s points) q) same
-      (collected-Contains (λ (k : ℕ). not (is_end s (point_at points k))) (point_at points) (met_places s points) at.0 (place_in s points at.0 c at.1 k)
-      (ap (λ (q : Point). not (is_end s q)) same ∙ ap not n)))
+      let there = (hot c).1 t in
+      subst (λ (l : List Point). Contains l c) (sym adds.is)
+      (Contains-append_right (points_along whole s own) adds.added c (adds.all c there there (and_from (meets_pixel s c) (not (is_end s c)) k (ap not n))))
 
 -- ---- in order, each once
 
@@ -91,7 +86,7 @@ module _ {I : Type 0} (eq : I → I → Bool) (cmp : I → I → Ordering) (whol
       (subst (λ l. IsStrictlySortedBy by_point l) (sym is) (IsStrictlySortedBy-dedup (on_total (point_of whole) point_cmp_total) (same_points eq cmp whole e o) sorted s))
 
   module _ (segments : List WholeSegment) (ordered : IsTrue (are_ordered segments)) (points : List Point) (hot : AreHotPoints (pairs segments) points) (decided : AreDecided segments) (s : Pair) (i : Contains (pairs segments) s) (own : List (LineMark I)) (are : mark_points_of whole own ≡ marks_on settling segments s) where
-    pub are_between : (listed sorted kept : List (IntPoint I)) → map (point_of whole) listed ≡ points_along whole s own ++ met_between s points → IsPermutation listed sorted → IsSorted by_point sorted → IsFiltered (DiffersFromLast coordinate_eq) [] sorted kept →
+    pub are_between : (listed sorted kept : List (IntPoint I)) → AddsAllMet s points (points_along whole s own) (map (point_of whole) listed) → IsPermutation listed sorted → IsSorted by_point sorted → IsFiltered (DiffersFromLast coordinate_eq) [] sorted kept →
         AreCutsBetween (pairs segments) s (map (point_of whole) kept)
     are_between listed sorted kept all permutation order filtered = record {
       in_order = is_strictly_sorted-from point_cmp_total (map (point_of whole) kept) (kept_in_order sorted kept order filtered);
@@ -102,10 +97,10 @@ module _ {I : Type 0} (eq : I → I → Bool) (cmp : I → I → Ordering) (whol
         same = listed_same eq cmp whole e o injective listed listed sorted kept refl permutation filtered
 
         out : (c : Point) → Contains (map (point_of whole) kept) c → IsFoundCut segments s c
-        out c h = listed_out whole segments points hot s own are c (subst (λ (l : List Point). Contains l c) all (mapped (point_of whole) kept listed (λ q. (same q).0) c h))
+        out c h = listed_out whole segments points hot s own are (map (point_of whole) listed) all c (mapped (point_of whole) kept listed (λ q. (same q).0) c h)
 
         back : (c : Point) → IsFoundCut segments s c → Contains (map (point_of whole) kept) c
-        back c f = mapped (point_of whole) listed kept (λ q. (same q).1) c (subst (λ (l : List Point). Contains l c) (sym all) (listed_in whole segments points hot s own are c f))
+        back c f = mapped (point_of whole) listed kept (λ q. (same q).1) c (listed_in whole segments points hot s own are (map (point_of whole) listed) all c f)
 
 -- ---- as marks of code
 

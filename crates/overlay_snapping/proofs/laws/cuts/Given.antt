@@ -21,7 +21,7 @@ use Rattle.overlay_snapping.specs.steps.Closing.{IsInput}
 use Rattle.overlay_snapping.specs.steps.Cutting.{origin, lies_at, points_on, points_off}
 use Rattle.overlay_snapping.proofs.laws.chains.MarkPoints.{rounded_are_marks_off, chain_points_are_ends_and_marks}
 use Rattle.overlay_snapping.proofs.laws.chains.GivenMarks.{given_is_end_or_mark}
-use Rattle.overlay_snapping.proofs.laws.closure.Steps.{found_at, contained, one_element}
+use Rattle.overlay_snapping.proofs.laws.closure.Elements.{found_at, contained, one_element}
 use Rattle.overlay_snapping.proofs.laws.cuts.Collected.{collected, Contains-collected, collected-Contains}
 
 abbrev mark_at : ℕ → Point → Mark

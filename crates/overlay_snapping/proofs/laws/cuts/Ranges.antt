@@ -30,7 +30,7 @@ use Rattle.overlay_snapping.specs.CutsOf.{AreMarksAt}
 use Rattle.overlay_snapping.specs.steps.Cutting.{origin, lies_at, points_on, points_off}
 use Rattle.overlay_snapping.proofs.laws.chains.MarkLists.{pair_at}
 use Rattle.overlay_snapping.proofs.laws.chains.MarkPoints.{IsMarkBy, crosses, touches, mark_is_by}
-use Rattle.overlay_snapping.proofs.laws.closure.Steps.{contained}
+use Rattle.overlay_snapping.proofs.laws.closure.Elements.{contained}
 use Rattle.overlay_snapping.proofs.laws.cuts.Given.{mark_out, coded}
 
 -- ---- a mark lies in the box of its segment

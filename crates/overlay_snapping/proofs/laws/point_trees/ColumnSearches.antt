@@ -39,7 +39,7 @@ shift_rises (pos a) (negsuc b) m some h = absurd (omega (arith, ints, h))
 shift_rises (negsuc a) (negsuc b) m some h = let up = quotient_rises b a m some (omega (arith, ints, h)) in omega (arith, ints, up)
 
 -- the columns of two numbers in order are in order
-columns_rise : (shift : ℕ) (x y : ℤ) → x ≤ℤ y → column_of shift x ≤ℤ column_of shift y
+pub columns_rise : (shift : ℕ) (x y : ℤ) → x ≤ℤ y → column_of shift x ≤ℤ column_of shift y
 columns_rise shift x y h = shift_rises x y (2 ^ (shift % 64)) (pow_pos (shift % 64)) h
 
 -- ---- the tests of the searches

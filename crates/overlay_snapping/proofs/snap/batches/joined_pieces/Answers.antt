@@ -1,20 +1,17 @@
-use Rattle.std.proofs.Common.{◌≡◌, ◌∙◌, ◌++◌, ◌+◌, ◌<◌, refl, sym, ap, subst, arith, ℕ, [], List, take, length, IsTrue, IsFalse, Ok, Err}
+use Rattle.std.proofs.Common.{◌≡◌, ◌∙◌, ◌++◌, ◌+◌, sym, ap, subst, arith, [], List, take, IsTrue, Ok, Err}
 use Rattle.std.specs.Prelude.{All, IfErr, IsErrAnd}
 use Rattle.std.specs.declared.result.Result.{Result}
 use Rattle.std.proofs.lemmas.List.{length-map, take_all}
-use Rattle.overlay_geometry.specs.Points.{Point, Pair}
-use Rattle.overlay_base.specs.Join.{join, join_leaves_range}
-use Rattle.overlay_base.specs.SegmentOf.{ends_of, winding_of, segment_of, segments_of}
+use Rattle.overlay_base.specs.SegmentOf.{winding_of, segment_of, segments_of}
 use Rattle.overlay_base.specs.Windings.{is_valid}
 use Rattle.overlay_base.specs.declared.segm.fault.Fault.TheVariants.{Memory}
 use Rattle.overlay_base.proofs.laws.joins.Maps.{are_ordered-map}
 use Rattle.overlay_base.proofs.laws.joins.Rests.{is_splittable-valid}
 use Rattle.overlay_intersections.specs.MarkOf.{mark_of, marks_of, mark_points_of}
 use Rattle.overlay_split.proofs.laws.passes.Ready.{IsPairInRange-each}
-use Rattle.overlay_snapping.specs.Chains.{AreSnapCuts}
 use Rattle.overlay_snapping.specs.CutsOf.{AreCutsAt}
 use Rattle.overlay_snapping.specs.HotOf.{KnowsHot}
-use Rattle.overlay_snapping.specs.steps.Batches.{IsCutSoFar, ForCuts}
+use Rattle.overlay_snapping.specs.steps.Batches.{IsCutSoFar}
 use Rattle.overlay_snapping.proofs.laws.batches.Existence.{cuts_exist}
 use Rattle.overlay_snapping.proofs.laws.batches.Steps.{cuts_rise, cuts_are_free, cut_further, none_leaves, only_memory, valid_joined}
 use Rattle.overlay_snapping.proofs.laws.batches.Walks.{at_first, after_join, at_last}

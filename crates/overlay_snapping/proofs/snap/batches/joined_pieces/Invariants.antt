@@ -1,10 +1,8 @@
-use Rattle.std.proofs.Common.{List, take}
+use Rattle.std.proofs.Common.{take}
 use Rattle.std.specs.Prelude.{All, IsTrue}
-use Rattle.overlay_geometry.specs.Points.{Point, Pair}
 use Rattle.overlay_base.specs.SegmentOf.{segments_of, winding_of}
 use Rattle.overlay_base.specs.Windings.{is_valid}
 use Rattle.overlay_intersections.specs.MarkOf.{marks_of}
-use Rattle.overlay_snapping.specs.Chains.{AreSnapCuts}
 use Rattle.overlay_snapping.specs.HotOf.{KnowsHot}
 use Rattle.overlay_snapping.specs.steps.Batches.{ForCuts, IsCutSoFar}
 use Rattle.overlay_snapping.proofs.laws.cuts.Added.{AreMarksFrom}

@@ -1,11 +1,10 @@
-use Rattle.std.proofs.Common.{◌≡◌, ℕ, true, take}
+use Rattle.std.proofs.Common.{◌≡◌, true, map, take}
 use Rattle.std.specs.Prelude.{Contains}
-use Rattle.overlay_geometry.specs.Points.{lies_on}
+use Rattle.overlay_geometry.specs.Points.{Point, lies_on}
+use Rattle.overlay_geometry.specs.PointOf.{point_of}
 use Rattle.overlay_geometry.specs.PairOf.{pair_of}
-use Rattle.overlay_snapping.specs.PointTreeOf.{points_in}
-use Rattle.overlay_snapping.specs.steps.Cutting.{point_at}
 use Rattle.overlay_snapping.proofs.snap.closure.passes_some.Given as goal
 
 -- the points so far lie on the segment
-abbrev pub invariant-loop-place : goal.invariant-loop-place
-invariant-loop-place g l = (k : ℕ) → Contains (take l.place-index l.place-items) k → lies_on (pair_of g.I.OverlayInt.whole l.segment) (point_at (points_in l.tree) k) ≡ true
+abbrev pub invariant-loop-point : goal.invariant-loop-point
+invariant-loop-point g l = (c : Point) → Contains (map (point_of g.I.OverlayInt.whole) (take l.point-index l.point-items)) c → lies_on (pair_of g.I.OverlayInt.whole l.segment) c ≡ true

@@ -1,73 +1,84 @@
-use Rattle.std.proofs.Common.{◌≡◌, ◌∙◌, sym, ap, [], map, length, ◌++◌}
-use Rattle.std.proofs.lemmas.Bool.{eqb-true}
-use Rattle.std.proofs.lemmas.List.{length-map, map-append}
-use Rattle.std.proofs.lemmas.Result.{on_ok_weaker}
-use Rattle.overlay_geometry.specs.Coordinates.{is_point_in_range}
+use Rattle.std.proofs.Common.{◌≡◌, ◌∙◌, inl, inr, sym, ap, map, ◌++◌}
+use Rattle.std.proofs.lemmas.List.{map-append, length-map}
 use Rattle.overlay_geometry.specs.PointOf.{point_of}
+use Rattle.overlay_geometry.specs.Coordinates.{is_point_in_range}
 use Rattle.overlay_base.specs.SegmentOf.{pairs_in}
-use Rattle.overlay_snapping.specs.Chains.{rounded}
-use Rattle.overlay_snapping.specs.PointTreeOf.{points_of, points_in}
-use Rattle.overlay_snapping.specs.steps.Closing.{found_in}
-use Rattle.overlay_snapping.proofs.laws.closure.Sets.{mapped, same_mapped, passed_on, sound_blank, hot_points, moved_over, moved_none, found_all, found_rounded, both_pass, no_items}
-use Rattle.overlay_snapping.proofs.laws.cuts.Reads.{pairs_long}
+use Rattle.overlay_snapping.specs.PointFinderOf.{points_in}
+use Rattle.overlay_snapping.proofs.laws.closure.Elements.{passed_on, both_pass}
+use Rattle.overlay_snapping.proofs.laws.closure.Repetitions.{sound_first, sound_same, sound_more, hot_points, fewer_left, in_either, some_element, none_element}
 use Rattle.overlay_snapping.proofs.snap.closure.Closure.close.Goals as goal
 
-pub fill-requires : goal.fill-requires
-fill-requires g c = record { in_range = c.requires.points }
-
-pub move_passing-requires-clause-hot : goal.move_passing-requires-clause-hot
-move_passing-requires-clause-hot g c = λ q i.
-    rounded ((c.requires.input.rounded_are q).0 (mapped (point_of g.I.OverlayInt.whole) (points_of c.fill.new.self) c.args.rounded.now (λ x. (c.in_ok-fill.ensures.same x).0) q i))
-
-pub move_passing-requires-clause-sound : goal.move_passing-requires-clause-sound
-move_passing-requires-clause-sound g c =
-    let whole = g.I.OverlayInt.whole in
-    let items = c.args.given.now.points.items in
-    sound_blank (pairs_in c.args.segments.now) (map (point_of whole) c.args.rounded.now) (points_in c.args.given.now) (found_in whole c.clear.new.self) (length c.points.result.now) (length c.args.segments.now)
-    (ap length c.points.ensures ∙ sym (length-map items (point_of whole))) (sym (pairs_long c.args.segments.now)) c.in_ok-clear.ensures
-
-pub spread-requires-clause-moved : goal.spread-requires-clause-moved
-spread-requires-clause-moved g c =
-    let whole = g.I.OverlayInt.whole in
-    moved_over (pairs_in c.args.segments.now) (points_in c.fill.new.self) (map (point_of whole) c.args.rounded.now) (found_in whole c.move_passing.new.self)
-    (λ q i. mapped (point_of whole) c.args.rounded.now (points_of c.fill.new.self) (λ x. (c.in_ok-fill.ensures.same x).1) q i) c.in_ok-move_passing.ensures.moved
-
-pub fill-requires-2 : goal.fill-requires-2
-fill-requires-2 g c =
-    let whole = g.I.OverlayInt.whole in
-    let test = is_point_in_range (whole g.I.OverlayInt.MIN_COORD) (whole g.I.OverlayInt.MAX_COORD) in
-    let passed = map (point_of whole) c.spread.new.self.passed.items in
-    record {
-      in_range = both_pass test passed (map (point_of whole) c.args.rounded.now) (map (point_of whole) c.deref.result.now)
-          (ap (map (point_of whole)) (c.deref.ensures.value ∙ c.in_ok-extend_from_slice.ensures.items) ∙ map-append (point_of whole) c.spread.new.self.passed.items c.args.rounded.now)
-          (passed_on test (points_in c.args.given.now) passed (λ q i. (c.in_ok-spread.ensures.sound.hot q i).0) c.args.given.now.holds.points_in_range) c.requires.points;
-    }
-
-pub returns-then-is_empty : goal.returns-then-is_empty
-returns-then-is_empty g c =
+pub loop-size-init : goal.loop-size-init
+loop-size-init g c =
     let whole = g.I.OverlayInt.whole in
     let segments = pairs_in c.args.segments.now in
-    let points = map (point_of whole) c.args.rounded.now in
-    let found = found_in whole c.move_passing.new.self in
-    let items = c.move_passing.new.self.passed.items in
-    let none : found.passed ≡ [] = ap (map (point_of whole)) (no_items items (sym c.move_passing.new.self.passed.ok.0 ∙ eqb-true _ 0 (sym c.is_empty.ensures ∙ c.if-is_empty.true))) in
-    let same = same_mapped (point_of whole) (points_of c.fill.new.self) c.args.rounded.now c.in_ok-fill.ensures.same in
-    hot_points segments points (points_in c.args.given.now) c.requires.input found c.in_ok-move_passing.ensures.sound
-    (moved_over segments (points_in c.fill.new.self) points found (λ q. (same q).1) c.in_ok-move_passing.ensures.moved) (moved_none segments found.passed found none) (points_in c.fill.new.self)
-    (found_rounded points found (points_in c.fill.new.self) none same)
+    let old = map (point_of whole) c.args.found.now.items in
+    let new = map (point_of whole) c.find_passed.new.found.items in
+    let same = c.in_ok-find_passed.ensures.same in
+    record {
+      points = passed_on (is_point_in_range (whole g.I.OverlayInt.MIN_COORD) (whole g.I.OverlayInt.MAX_COORD)) old new (λ q i. (same q).0 i) c.requires.points;
+      sound = sound_same segments old new same (sound_first segments old (map (point_of whole) c.args.given.now) c.requires.input);
+      hot = c.in_ok-find_passed.ensures.hot;
+      passed = c.in_ok-find_passed.ensures.passed;
+      recorded = c.in_ok-find_passed.ensures.recorded;
+    }
+
+pub find_passed-requires-in-loop-size-clause-points : goal.find_passed-requires-in-loop-size-clause-points
+find_passed-requires-in-loop-size-clause-points g c =
+    let whole = g.I.OverlayInt.whole in
+    let test = is_point_in_range (whole g.I.OverlayInt.MIN_COORD) (whole g.I.OverlayInt.MAX_COORD) in
+    let found = map (point_of whole) c.loop-size.found.items in
+    let passed = map (point_of whole) c.loop-size.self.passed.items in
+    both_pass test found passed (map (point_of whole) c.extend_from_slice.new.self.items)
+    (ap (map (point_of whole)) (c.in_ok-extend_from_slice.ensures.items ∙ ap (λ l. c.loop-size.found.items ++ l) c.deref.ensures.value) ∙ map-append (point_of whole) c.loop-size.found.items c.loop-size.self.passed.items)
+    c.loop-size.invariant.points (passed_on test (map (point_of whole) c.args.given.now) passed (λ q i. (c.loop-size.invariant.passed.only q i).0) c.requires.given)
+
+pub loop-size-preserved : goal.loop-size-preserved
+loop-size-preserved g c =
+    let whole = g.I.OverlayInt.whole in
+    let segments = pairs_in c.args.segments.now in
+    let first = map (point_of whole) c.args.found.now.items in
+    let given = map (point_of whole) c.args.given.now in
+    let found = map (point_of whole) c.loop-size.found.items in
+    let passed = map (point_of whole) c.loop-size.self.passed.items in
+    let longer = map (point_of whole) c.extend_from_slice.new.self.items in
+    let new = map (point_of whole) c.find_passed-in-loop-size.new.found.items in
+    let same = c.in_ok-find_passed-2.ensures.same in
+    let test = is_point_in_range (whole g.I.OverlayInt.MIN_COORD) (whole g.I.OverlayInt.MAX_COORD) in
+    let all : longer ≡ found ++ passed =
+    ap (map (point_of whole)) (c.in_ok-extend_from_slice.ensures.items ∙ ap (λ l. c.loop-size.found.items ++ l) c.deref.ensures.value) ∙ map-append (point_of whole) c.loop-size.found.items c.loop-size.self.passed.items in
+    let h = c.loop-size.invariant in
+    record {
+      points = passed_on test longer new (λ q i. (same q).0 i) (both_pass test found passed longer all h.points (passed_on test given passed (λ q i. (h.passed.only q i).0) c.requires.given));
+      sound = sound_same segments longer new same (sound_more segments first given c.requires.input found h.sound passed h.passed longer (in_either found passed longer all));
+      hot = c.in_ok-find_passed-2.ensures.hot;
+      passed = c.in_ok-find_passed-2.ensures.passed;
+      recorded = c.in_ok-find_passed-2.ensures.recorded;
+    }
+
+pub loop-size-smaller : goal.loop-size-smaller
+loop-size-smaller g c =
+    let whole = g.I.OverlayInt.whole in
+    let given = map (point_of whole) c.args.given.now in
+    let found = map (point_of whole) c.loop-size.found.items in
+    let passed = map (point_of whole) c.loop-size.self.passed.items in
+    let longer = map (point_of whole) c.extend_from_slice.new.self.items in
+    let new = map (point_of whole) c.find_passed-in-loop-size.new.found.items in
+    let same = c.in_ok-find_passed-2.ensures.same in
+    let all : longer ≡ found ++ passed =
+    ap (map (point_of whole)) (c.in_ok-extend_from_slice.ensures.items ∙ ap (λ l. c.loop-size.found.items ++ l) c.deref.ensures.value) ∙ map-append (point_of whole) c.loop-size.found.items c.loop-size.self.passed.items in
+    let either = in_either found passed longer all in
+    let one = some_element passed c.loop-size.self.passed.len c.is_empty.result (c.loop-size.self.passed.ok.0 ∙ sym (length-map c.loop-size.self.passed.items (point_of whole))) c.is_empty.ensures c.loop-size-test.true in
+    let r = c.loop-size.invariant.passed.only one.0 one.1 in
+    fewer_left found new (λ q i. (same q).1 ((either q).1 (inl i))) given one.0 r.0 r.2 ((same one.0).1 ((either one.0).1 (inr one.1)))
 
 pub returns : goal.returns
 returns g c =
     let whole = g.I.OverlayInt.whole in
-    let segments = pairs_in c.args.segments.now in
-    let points = map (point_of whole) c.args.rounded.now in
-    let found = found_in whole c.spread.new.self in
-    let all : map (point_of whole) c.deref.result.now ≡ found.passed ++ points =
-    ap (map (point_of whole)) (c.deref.ensures.value ∙ c.in_ok-extend_from_slice.ensures.items) ∙ map-append (point_of whole) c.spread.new.self.passed.items c.args.rounded.now in
-    on_ok_weaker c.fill-2.result
-    (λ same. hot_points segments points (points_in c.args.given.now) c.requires.input found c.in_ok-spread.ensures.sound c.in_ok-spread.ensures.moved c.in_ok-spread.ensures.passed (points_in c.fill-2.new.self)
-    (λ q.
-    let listed = same_mapped (point_of whole) (points_of c.fill-2.new.self) c.deref.result.now same q in
-    let here = found_all points found (map (point_of whole) c.deref.result.now) all q in
-    (λ i. here.0 (listed.0 i), λ k. listed.1 (here.1 k))))
-    c.fill-2.ensures.same
+    let h = c.loop-size.invariant in
+    let passed = map (point_of whole) c.loop-size.self.passed.items in
+    record {
+      hot = hot_points (pairs_in c.args.segments.now) (map (point_of whole) c.args.found.now.items) (map (point_of whole) c.args.given.now) c.requires.input (map (point_of whole) c.loop-size.found.items) h.sound passed h.passed
+          (none_element passed c.loop-size.self.passed.len c.is_empty.result (c.loop-size.self.passed.ok.0 ∙ sym (length-map c.loop-size.self.passed.items (point_of whole))) c.is_empty.ensures c.loop-size-test.false) (points_in c.loop-size.hot) h.hot;
+      recorded = h.recorded;
+    }

@@ -1,4 +1,4 @@
-use Rattle.std.proofs.Common.{◌≡◌, ◌∙◌, ◌+◌, sym, ap, subst, List, length, arith}
+use Rattle.std.proofs.Common.{◌∙◌, ◌+◌, sym, ap, subst, arith}
 use Rattle.std.proofs.lemmas.List.{length-map}
 use Rattle.overlay_base.specs.SegmentOf.{segment_of, segments_of}
 use Rattle.overlay_intersections.specs.MarkOf.{mark_of, marks_of, mark_points_of}

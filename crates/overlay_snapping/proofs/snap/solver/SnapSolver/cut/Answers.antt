@@ -1,8 +1,7 @@
 use Rattle.std.proofs.Common.{◌≡◌, ◌∙◌, refl, sym, ap, subst, arith, ℕ, zero, suc, length, Bool, not, true, false, List, [], ◌∷◌, ◌==◌}
-use Rattle.std.specs.Prelude.{◌↔◌, IsTrue, IsFalse}
+use Rattle.std.specs.Prelude.{◌↔◌, IsTrue}
 use Rattle.std.proofs.lemmas.Bool.{both_ways, not-true}
 use Rattle.std.proofs.lemmas.List.{length-map}
-use Rattle.overlay_geometry.specs.Points.{Point, Pair}
 use Rattle.overlay_base.specs.EdgeData.{IsMadeFrom}
 use Rattle.overlay_base.specs.EdgeData.IsMadeFrom.{no_call}
 use Rattle.overlay_base.specs.HooksOf.{hooks_of}
@@ -12,11 +11,9 @@ use Rattle.overlay_base.proofs.laws.joins.Maps.{are_ordered-map}
 use Rattle.overlay_base.proofs.laws.joins.OneValues.{same_without_data}
 use Rattle.overlay_base.proofs.laws.joins.Views.{segments_of-bare}
 use Rattle.overlay_intersections.specs.MarkOf.{Mark, mark_of, marks_of}
-use Rattle.overlay_split.specs.CutOf.{AreMarksBy}
 use Rattle.overlay_split.specs.Pass.{pass_by}
 use Rattle.overlay_split.proofs.laws.passes.DataPasses.{bare-data_pass_by}
 use Rattle.overlay_split.proofs.laws.passes.StoppedRuns.{refused_by}
-use Rattle.overlay_snapping.specs.Chains.{AreSnapCuts}
 use Rattle.overlay_snapping.specs.CutsOf.{AreCuts}
 use Rattle.overlay_snapping.specs.steps.Batches.{HasCut}
 use Rattle.overlay_snapping.proofs.laws.batches.Walks.{cut_fits}

@@ -39,7 +39,7 @@ returns-clause-cuts g c = λ listed.
     let segments = segments_of c.args.segments.now in
     let marks = marks_of g.I.OverlayInt.whole c.find_marks.new.marks.items in
     let found = c.in_ok-is_rounded.ensures in
-    rw (c.in_ok-extend_from_slice.ensures.items, c.clear.ensures.items, c.as_slice.ensures.value)
+    rw c.swap.ensures.x_after
     (exact_cuts segments marks (are_ordered-map segments c.requires.map) (sym found.rounded ∙ c.if-is_rounded.false) found.marks)
 
 pub returns-clause-has_cuts : goal.returns-clause-has_cuts

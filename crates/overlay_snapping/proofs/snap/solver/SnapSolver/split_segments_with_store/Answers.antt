@@ -1,5 +1,5 @@
-use Rattle.std.proofs.Common.{◌≡◌, ◌∙◌, ◌==◌, ◌⊎◌, ⊎_elim, inl, inr, arith, zero, suc, ◌+◌, ◌*◌, ◌≤◌, refl, sym, ap, ap₂, subst, ℕ, [], length, Bool, true, false, if◌then◌else◌, List, ◌||◌, not}
-use Rattle.std.specs.Prelude.{◌↔◌, ◌∷◌, IsTrue, IsFalse, All}
+use Rattle.std.proofs.Common.{◌≡◌, ◌∙◌, ◌⊎◌, ⊎_elim, inl, inr, arith, ◌+◌, ◌*◌, ◌≤◌, refl, sym, ap, ap₂, subst, ℕ, [], length, Bool, true, false, if◌then◌else◌, List, ◌||◌, not}
+use Rattle.std.specs.Prelude.{◌↔◌, IsTrue, IsFalse, All}
 use Rattle.std.proofs.lemmas.List.{length-map}
 use Rattle.std.specs.List.{list_all}
 use Rattle.overlay_geometry.specs.Points.{Point, Pair}
