@@ -427,6 +427,17 @@ impl<I: OverlayInt> Overlay<I> {
         }
     }
 
+    /// The contours of a shape that were added, in that order. All their points are in range.
+    pub fn contours(&self, shape_type: ShapeType) -> &[IntContour<I>]
+        ensures contours { contours_of I.whole result.now ≡ contours_kept shape_type self.now }
+        ensures in_range { LieInRange I.whole I.MIN_COORD I.MAX_COORD result.now }
+    {
+        match shape_type {
+            ShapeType::Subject => &self.subject,
+            ShapeType::Clip => &self.clip,
+        }
+    }
+
     /// Drops the contours. The buffers of the overlays stay, and what `passes` and `reach` return.
     pub fn clear(&mut self)
         ensures subject { subject_of self.new ≡ [] }

@@ -13,16 +13,16 @@ use Rattle.overlay_relations.specs.Relations.{HasPoint, HoldsSomewhere}
 -- some inside neither.
 abbrev pub CrossingBoundariesMeet : Type 0
 CrossingBoundariesMeet =
-    (fill_rule : FillRule) (subject clip first second : List (List Point)) →
-    IsBoundaryOf fill_rule subject first → IsBoundaryOf fill_rule clip second →
-    IsTrue (has_inexact_crossing first second) → (in_subject in_clip : Bool) → HasPoint fill_rule subject clip in_subject in_clip
+    (subject_rule clip_rule : FillRule) (subject clip first second : List (List Point)) →
+    IsBoundaryOf subject_rule subject first → IsBoundaryOf clip_rule clip second →
+    IsTrue (has_inexact_crossing first second) → (in_subject in_clip : Bool) → HasPoint subject_rule clip_rule subject clip in_subject in_clip
 
 -- Where the overlay of the boundaries by a rule moves nothing, it is empty exactly if the rule holds at no point.
 abbrev pub ExactBoundariesDecide : Type 0
 ExactBoundariesDecide =
-    (rule : OverlayRule) (fill_rule : FillRule) (subject clip first second region : List (List Point)) → holds rule false false ≡ false →
-    IsBoundaryOf fill_rule subject first → IsBoundaryOf fill_rule clip second → IsOverlayBeyond 0 rule NonZero first second region →
-    (region ≡ [] → HoldsSomewhere rule fill_rule subject clip → ⊥) × ((region ≡ [] → ⊥) → HoldsSomewhere rule fill_rule subject clip)
+    (rule : OverlayRule) (subject_rule clip_rule : FillRule) (subject clip first second region : List (List Point)) → holds rule false false ≡ false →
+    IsBoundaryOf subject_rule subject first → IsBoundaryOf clip_rule clip second → IsOverlayBeyond 0 rule NonZero first second region →
+    (region ≡ [] → HoldsSomewhere rule subject_rule clip_rule subject clip → ⊥) × ((region ≡ [] → ⊥) → HoldsSomewhere rule subject_rule clip_rule subject clip)
 
 -- What an overlay returns crosses itself at no such point, however far the overlay moved things.
 abbrev pub ResultsCrossExactly : Type 0

@@ -9,9 +9,9 @@ ghost use Rattle.overlay_contours.specs.Kept.{contours_kept, KeepsContours, Keep
 ghost use Rattle.overlay_contours.specs.Refusals.{other_shape, IsShapeOutside};
 ghost use Rattle.overlay_contours.specs.declared.fault.ContourFault.TheVariants.{Refused as RefusedContours};
 ghost use Rattle.overlay_relations.specs.Boundaries.{has_inexact_crossing, IsBoundaryOf};
-ghost use Rattle.overlay_relations.specs.Refusals.{IsRefusalOf};
+ghost use Rattle.overlay_relations.specs.Refusals.{IsRefusalOf, IsOverlayRefusal};
 ghost use Rattle.overlay_relations.specs.Relations.{InteriorsMeet, Covers, IsWithin, AreSameRegion, HoldsSomewhere};
-ghost use Rattle.overlay_relations.specs.steps.Outcomes.{IsExactOverlay, IsOverlayRefusal, IsBoundaryRefusal};
+ghost use Rattle.overlay_relations.specs.steps.Outcomes.{DecidesBetween, IsExactOverlay, IsBoundaryRefusal};
 
 use crate::fault::RelationFault;
 use overlay_base::overlay_core::fill_rule::FillRule;
@@ -46,7 +46,7 @@ pub fn interiors_meet<I: OverlayInt>(
     fill_rule: FillRule,
 ) -> Result<bool, RelationFault>
     ensures meet { IfOk result (λ meet. (meet ≡ true)
-        ↔ InteriorsMeet fill_rule (contours_of I.whole subject.now) (contours_of I.whole clip.now)) }
+        ↔ InteriorsMeet fill_rule fill_rule (contours_of I.whole subject.now) (contours_of I.whole clip.now)) }
     ensures refused { IfErr result (IsRefusalOf I.OverlayInt.own fill_rule subject.now clip.now) }
     ensures subject_in_range { OnOk result (LieInRange I.whole I.MIN_COORD I.MAX_COORD subject.now) }
     ensures clip_in_range { OnOk result (LieInRange I.whole I.MIN_COORD I.MAX_COORD clip.now) }
@@ -73,7 +73,7 @@ pub fn covers<I: OverlayInt>(
     fill_rule: FillRule,
 ) -> Result<bool, RelationFault>
     ensures covers { IfOk result (λ covers. (covers ≡ true)
-        ↔ Covers fill_rule (contours_of I.whole subject.now) (contours_of I.whole clip.now)) }
+        ↔ Covers fill_rule fill_rule (contours_of I.whole subject.now) (contours_of I.whole clip.now)) }
     ensures refused { IfErr result (IsRefusalOf I.OverlayInt.own fill_rule subject.now clip.now) }
     ensures subject_in_range { OnOk result (LieInRange I.whole I.MIN_COORD I.MAX_COORD subject.now) }
     ensures clip_in_range { OnOk result (LieInRange I.whole I.MIN_COORD I.MAX_COORD clip.now) }
@@ -100,7 +100,7 @@ pub fn is_within<I: OverlayInt>(
     fill_rule: FillRule,
 ) -> Result<bool, RelationFault>
     ensures within { IfOk result (λ within. (within ≡ true)
-        ↔ IsWithin fill_rule (contours_of I.whole subject.now) (contours_of I.whole clip.now)) }
+        ↔ IsWithin fill_rule fill_rule (contours_of I.whole subject.now) (contours_of I.whole clip.now)) }
     ensures refused { IfErr result (IsRefusalOf I.OverlayInt.own fill_rule subject.now clip.now) }
     ensures subject_in_range { OnOk result (LieInRange I.whole I.MIN_COORD I.MAX_COORD subject.now) }
     ensures clip_in_range { OnOk result (LieInRange I.whole I.MIN_COORD I.MAX_COORD clip.now) }
@@ -128,7 +128,7 @@ pub fn same_region<I: OverlayInt>(
     fill_rule: FillRule,
 ) -> Result<bool, RelationFault>
     ensures same { IfOk result (λ same. (same ≡ true)
-        ↔ AreSameRegion fill_rule (contours_of I.whole subject.now) (contours_of I.whole clip.now)) }
+        ↔ AreSameRegion fill_rule fill_rule (contours_of I.whole subject.now) (contours_of I.whole clip.now)) }
     ensures refused { IfErr result (IsRefusalOf I.OverlayInt.own fill_rule subject.now clip.now) }
     ensures subject_in_range { OnOk result (LieInRange I.whole I.MIN_COORD I.MAX_COORD subject.now) }
     ensures clip_in_range { OnOk result (LieInRange I.whole I.MIN_COORD I.MAX_COORD clip.now) }
@@ -149,7 +149,7 @@ fn holds_somewhere<I: OverlayInt>(
     requires outside { holds overlay_rule false false ≡ false }
     requires inside { IsTrue (holds overlay_rule true true || holds overlay_rule true false || holds overlay_rule false true) }
     ensures holds { IfOk result (λ found. (found ≡ true)
-        ↔ HoldsSomewhere overlay_rule fill_rule (contours_of I.whole subject.now) (contours_of I.whole clip.now)) }
+        ↔ HoldsSomewhere overlay_rule fill_rule fill_rule (contours_of I.whole subject.now) (contours_of I.whole clip.now)) }
     ensures refused { IfErr result (IsRefusalOf I.OverlayInt.own fill_rule subject.now clip.now) }
     ensures subject_in_range { OnOk result (LieInRange I.whole I.MIN_COORD I.MAX_COORD subject.now) }
     ensures clip_in_range { OnOk result (LieInRange I.whole I.MIN_COORD I.MAX_COORD clip.now) }
@@ -158,10 +158,29 @@ fn holds_somewhere<I: OverlayInt>(
     test_range(clip, ShapeType::Clip)?;
     let first = exact_boundary(alloc, subject, ShapeType::Subject, solver, fill_rule)?;
     let second = exact_boundary(alloc, clip, ShapeType::Clip, solver, fill_rule)?;
+    Ok(holds_between(alloc, &first, &second, solver, overlay_rule)?)
+}
+
+/// Whether a rule, which does not hold outside of both shapes, holds at some point that is on no edge of them, by the
+/// boundaries of the shapes.
+pub(crate) fn holds_between<I: OverlayInt>(
+    alloc: Global,
+    first: &[IntContour<I>],
+    second: &[IntContour<I>],
+    solver: &Solver,
+    overlay_rule: OverlayRule,
+) -> Result<bool, ContourFault>
+    requires first { LieInRange I.whole I.MIN_COORD I.MAX_COORD first.now }
+    requires second { LieInRange I.whole I.MIN_COORD I.MAX_COORD second.now }
+    requires outside { holds overlay_rule false false ≡ false }
+    requires inside { IsTrue (holds overlay_rule true true || holds overlay_rule true false || holds overlay_rule false true) }
+    ensures holds { IfOk result (DecidesBetween overlay_rule (contours_of I.whole first.now) (contours_of I.whole second.now)) }
+    ensures refused { IfErr result (IsOverlayRefusal (contours_of I.whole first.now) (contours_of I.whole second.now)) }
+{
     match exact_overlay(
         alloc,
-        &first,
-        &second,
+        first,
+        second,
         solver,
         FillRule::NonZero,
         overlay_rule,
@@ -172,7 +191,7 @@ fn holds_somewhere<I: OverlayInt>(
 }
 
 /// Returns the first point of a shape's contours that is out of range.
-fn test_range<I: OverlayInt>(
+pub(crate) fn test_range<I: OverlayInt>(
     contours: &[IntContour<I>],
     shape_type: ShapeType,
 ) -> Result<(), ContourFault>
@@ -191,7 +210,7 @@ fn test_range<I: OverlayInt>(
 }
 
 /// The boundary of a shape in range, without edges that cross at a point that is not whole.
-fn exact_boundary<I: OverlayInt>(
+pub(crate) fn exact_boundary<I: OverlayInt>(
     alloc: Global,
     contours: &[IntContour<I>],
     shape_type: ShapeType,

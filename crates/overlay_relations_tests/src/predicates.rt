@@ -8,6 +8,7 @@ use overlay_contours::fault::ContourFault;
 use overlay_geometry::geom::point::IntPoint;
 use overlay_relations::fault::RelationFault;
 use overlay_relations::predicates::{covers, interiors_meet, is_within, same_region};
+use overlay_relations::region::Region;
 use std::alloc::Global;
 use std::test::Fail;
 
@@ -201,5 +202,55 @@ fn point_out_of_range_is_named(rt: HostRuntime) -> Result<(), Fail> {
     };
     let refused = relations(rt.alloc(), &square, &beyond, FillRule::NonZero);
     assert_eq!(rt; refused, Err(RelationFault::Refused(fault)));
+    Ok(())
+}
+
+/// The relations of the rows by regions that are prepared once.
+#[test]
+fn regions_worked_by_hand(rt: HostRuntime) -> Result<(), Fail> {
+    for (name, subject, clip, fill_rule, wanted) in ROWS {
+        let subject = contours_from(rt.alloc(), subject)?;
+        let clip = contours_from(rt.alloc(), clip)?;
+        let first = Region::new(rt.alloc(), &subject, &Solver::AUTO, fill_rule)?;
+        let second = Region::new(rt.alloc(), &clip, &Solver::AUTO, fill_rule)?;
+        let found = (
+            first.interiors_meet(&second, &Solver::AUTO)?,
+            first.covers(&second, &Solver::AUTO)?,
+            first.is_within(&second, &Solver::AUTO)?,
+            first.same_region(&second, &Solver::AUTO)?,
+        );
+        assert_eq!(rt; found, wanted, "{name}");
+    }
+    Ok(())
+}
+
+/// A square in a square is a hole by even-odd, and none by non-zero.
+#[test]
+fn regions_of_two_fill_rules(rt: HostRuntime) -> Result<(), Fail> {
+    let contours = contours_from(rt.alloc(), &[WIDE_SQUARE, INNER_SQUARE])?;
+    let with_hole = Region::new(rt.alloc(), &contours, &Solver::AUTO, FillRule::EvenOdd)?;
+    let whole = Region::new(rt.alloc(), &contours, &Solver::AUTO, FillRule::NonZero)?;
+    assert!(rt; with_hole.is_within(&whole, &Solver::AUTO)?);
+    assert!(rt; !with_hole.covers(&whole, &Solver::AUTO)?);
+    assert!(rt; !with_hole.same_region(&whole, &Solver::AUTO)?);
+    assert_eq!(rt;
+        (with_hole.boundary().len(), whole.boundary().len()),
+        (2, 1)
+    );
+    let inner = contours_from(rt.alloc(), &[INNER_SQUARE])?;
+    let inner = Region::new(rt.alloc(), &inner, &Solver::AUTO, FillRule::Positive)?;
+    assert!(rt; whole.covers(&inner, &Solver::AUTO)?);
+    assert!(rt; !with_hole.interiors_meet(&inner, &Solver::AUTO)?);
+    Ok(())
+}
+
+#[test]
+fn region_that_is_not_exact_is_refused(rt: HostRuntime) -> Result<(), Fail> {
+    let bow = contours_from(rt.alloc(), &[BOW])?;
+    let refused = Region::new(rt.alloc(), &bow, &Solver::AUTO, FillRule::EvenOdd);
+    assert!(rt; matches!(refused, Err(RelationFault::NotExact(ShapeType::Subject))));
+    let both = contours_from(rt.alloc(), &[BOW, BOW_BACK])?;
+    let nothing = Region::new(rt.alloc(), &both, &Solver::AUTO, FillRule::NonZero)?;
+    assert!(rt; nothing.boundary().is_empty());
     Ok(())
 }

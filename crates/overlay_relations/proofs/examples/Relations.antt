@@ -100,13 +100,13 @@ corner_off_edges = off_squares 5 5 (
   ),
 )
 
-squares_meet : InteriorsMeet NonZero first second
+squares_meet : InteriorsMeet NonZero NonZero first second
 squares_meet = record { point = at_point 3 3; some = omega arith; off_edges = middle_off_edges; of_subject = in_both.0; of_clip = in_both.1 }
 
-no_cover : Covers NonZero first second → ⊥
+no_cover : Covers NonZero NonZero first second → ⊥
 no_cover covers = both_ways (is_in NonZero first (at_point 5 5)) in_second_alone.0 (covers (at_point 5 5) (omega arith) corner_off_edges in_second_alone.1)
 
-not_the_same : AreSameRegion NonZero first second → ⊥
+not_the_same : AreSameRegion NonZero NonZero first second → ⊥
 not_the_same same = both_ways (is_in NonZero first (at_point 5 5)) in_second_alone.0 (same (at_point 5 5) (omega arith) corner_off_edges ∙ in_second_alone.1)
 
 -- ---- less than a tenth of a unit in common: below the line to (10, 1), and above that to (11, 1)
@@ -142,7 +142,7 @@ off_slopes = off_each below_slope above_lower_slope (part_of 1980 189 220) (
   ),
 )
 
-slopes_meet : InteriorsMeet NonZero below_slope above_lower_slope
+slopes_meet : InteriorsMeet NonZero NonZero below_slope above_lower_slope
 slopes_meet = record { point = part_of 1980 189 220; some = omega arith; off_edges = off_slopes; of_subject = between_slopes.0; of_clip = between_slopes.1 }
 
 -- ---- no contours: every shape covers them, and they cover no square
@@ -151,10 +151,10 @@ nothing_inside : (p : RationalPoint) → is_in NonZero [] p ≡ false
 unfolding winding_number
 nothing_inside p = refl
 
-nothing_is_covered : (contours : List (List Point)) → Covers NonZero contours []
+nothing_is_covered : (contours : List (List Point)) → Covers NonZero NonZero contours []
 nothing_is_covered contours p some far inside = absurd (both_ways (is_in NonZero [] p) (nothing_inside p) inside)
 
-nothing_is_within : (contours : List (List Point)) → IsWithin NonZero [] contours
+nothing_is_within : (contours : List (List Point)) → IsWithin NonZero NonZero [] contours
 nothing_is_within contours p some far inside = absurd (both_ways (is_in NonZero [] p) (nothing_inside p) inside)
 
 off_one_square : IsBeyond 0 [] first (at_point 2 2)
@@ -176,7 +176,7 @@ in_one_square : is_in NonZero first (at_point 2 2) ≡ true
 unfolding winding_number
 in_one_square = refl
 
-nothing_covers_no_square : Covers NonZero [] first → ⊥
+nothing_covers_no_square : Covers NonZero NonZero [] first → ⊥
 nothing_covers_no_square covers = both_ways (is_in NonZero [] (at_point 2 2)) (nothing_inside (at_point 2 2)) (covers (at_point 2 2) (omega arith) off_one_square in_one_square)
 
 -- ---- crossings at points that are not whole: of a bow tie, and of none where a second one runs back along it

@@ -71,12 +71,12 @@ crossing_of list h =
 pub not_in_one : (xs : List WholeSegment) (s t : Pair) → IsTrue (are_apart s t) → IsTrue (do_cross s t) → ⊥
 not_in_one xs s t h c = both_ways (do_cross s t) (are_apart_parts s t h).0 c
 
-module _ (fill_rule : FillRule) (subject clip first second : List (List Point)) (a : IsBoundaryOf fill_rule subject first) (b : IsBoundaryOf fill_rule clip second) where
+module _ (subject_rule clip_rule : FillRule) (subject clip first second : List (List Point)) (a : IsBoundaryOf subject_rule subject first) (b : IsBoundaryOf clip_rule clip second) where
   abbrev xs : List WholeSegment
-  xs = arc Subject first a.apart (is_in fill_rule subject) (λ p. IsFar 0 p (edges subject)) (around_shape fill_rule subject first a)
+  xs = arc Subject first a.apart (is_in subject_rule subject) (λ p. IsFar 0 p (edges subject)) (around_shape subject_rule subject first a)
 
   abbrev ys : List WholeSegment
-  ys = arc Clip second b.apart (is_in fill_rule clip) (λ p. IsFar 0 p (edges clip)) (around_shape fill_rule clip second b)
+  ys = arc Clip second b.apart (is_in clip_rule clip) (λ p. IsFar 0 p (edges clip)) (around_shape clip_rule clip second b)
 
   abbrev lines : List Pair
   lines = edges subject ++ edges clip
@@ -91,22 +91,22 @@ module _ (fill_rule : FillRule) (subject clip first second : List (List Point)) 
 
   module _ (s : WholeSegment) (m : Has xs s) (t : WholeSegment) (k : Has ys t) (c : IsTrue (do_cross s.pair t.pair)) where
     beside : (left_of_s left_of_t : Bool) → IsBesideBoth xs ys s.pair t.pair lines left_of_s left_of_t
-    beside left_of_s left_of_t = beside_crossing xs ys (arranged Subject first a.apart (is_in fill_rule subject) (λ p. IsFar 0 p (edges subject)) (around_shape fill_rule subject first a)) (arranged Clip second b.apart (is_in fill_rule clip) (λ p. IsFar 0 p (edges clip)) (around_shape fill_rule clip second b)) s m t k lines lines_ordered left_of_s left_of_t c
+    beside left_of_s left_of_t = beside_crossing xs ys (arranged Subject first a.apart (is_in subject_rule subject) (λ p. IsFar 0 p (edges subject)) (around_shape subject_rule subject first a)) (arranged Clip second b.apart (is_in clip_rule clip) (λ p. IsFar 0 p (edges clip)) (around_shape clip_rule clip second b)) s m t k lines lines_ordered left_of_s left_of_t c
 
     far_of : (l r : Bool) (q : IsBesideBoth xs ys s.pair t.pair lines l r) → IsFar 0 q.place (edges subject ++ edges clip)
     far_of l r q = far_off_lines lines q.place q.off_lines
 
-    side_of_s : (wanted : Bool) → IsSide Subject first a.apart (is_in fill_rule subject) (λ p. IsFar 0 p (edges subject)) (around_shape fill_rule subject first a) s.pair wanted
+    side_of_s : (wanted : Bool) → IsSide Subject first a.apart (is_in subject_rule subject) (λ p. IsFar 0 p (edges subject)) (around_shape subject_rule subject first a) s.pair wanted
     side_of_s wanted =
         let q = beside true true in
-        side_with Subject first a.apart (is_in fill_rule subject) (λ p. IsFar 0 p (edges subject)) (around_shape fill_rule subject first a) s m q.place q.some q.first (far_left q.place (edges subject) (edges clip) (far_of true true q)) wanted
+        side_with Subject first a.apart (is_in subject_rule subject) (λ p. IsFar 0 p (edges subject)) (around_shape subject_rule subject first a) s m q.place q.some q.first (far_left q.place (edges subject) (edges clip) (far_of true true q)) wanted
 
-    side_of_t : (wanted : Bool) → IsSide Clip second b.apart (is_in fill_rule clip) (λ p. IsFar 0 p (edges clip)) (around_shape fill_rule clip second b) t.pair wanted
+    side_of_t : (wanted : Bool) → IsSide Clip second b.apart (is_in clip_rule clip) (λ p. IsFar 0 p (edges clip)) (around_shape clip_rule clip second b) t.pair wanted
     side_of_t wanted =
         let q = beside true true in
-        side_with Clip second b.apart (is_in fill_rule clip) (λ p. IsFar 0 p (edges clip)) (around_shape fill_rule clip second b) t k q.place q.some q.second (far_right q.place (edges subject) (edges clip) (far_of true true q)) wanted
+        side_with Clip second b.apart (is_in clip_rule clip) (λ p. IsFar 0 p (edges clip)) (around_shape clip_rule clip second b) t k q.place q.some q.second (far_right q.place (edges subject) (edges clip) (far_of true true q)) wanted
 
-    point_with : (in_subject in_clip : Bool) → HasPoint fill_rule subject clip in_subject in_clip
+    point_with : (in_subject in_clip : Bool) → HasPoint subject_rule clip_rule subject clip in_subject in_clip
     point_with in_subject in_clip =
         let for_s = side_of_s in_subject in
         let for_t = side_of_t in_clip in
@@ -120,25 +120,25 @@ module _ (fill_rule : FillRule) (subject clip first second : List (List Point)) 
           of_clip = for_t.all q.place q.some q.second (far_right q.place (edges subject) (edges clip) far);
         }
 
-  point_of_pairs : (s t : Pair) → Has (pairs xs) s → Has (pairs ys) t → IsTrue (do_cross s t) → (in_subject in_clip : Bool) → HasPoint fill_rule subject clip in_subject in_clip
+  point_of_pairs : (s t : Pair) → Has (pairs xs) s → Has (pairs ys) t → IsTrue (do_cross s t) → (in_subject in_clip : Bool) → HasPoint subject_rule clip_rule subject clip in_subject in_clip
   point_of_pairs s t m k c in_subject in_clip =
       let one = Has-map_out (λ (u : WholeSegment). u.pair) xs s m in
       let two = Has-map_out (λ (u : WholeSegment). u.pair) ys t k in
       point_with one.0 one.1 two.0 two.1 (subst (λ (r : Pair). IsTrue (do_cross r two.0.pair)) (sym one.2) (subst (λ (r : Pair). IsTrue (do_cross s r)) (sym two.2) c)) in_subject in_clip
 
-  points_there : IsTrue (has_inexact_crossing first second) → (in_subject in_clip : Bool) → HasPoint fill_rule subject clip in_subject in_clip
+  points_there : IsTrue (has_inexact_crossing first second) → (in_subject in_clip : Bool) → HasPoint subject_rule clip_rule subject clip in_subject in_clip
   points_there h in_subject in_clip =
       let crossing = crossing_of (join (overlay_segments first second)) h in
       elim (in_shapes first second crossing.s crossing.is_first) [
         | inl i ↦ elim (in_shapes first second crossing.t crossing.is_second) [
-          | inl j ↦ absurd (not_in_one xs crossing.s crossing.t (is_planar-each xs (planar Subject first a.apart (is_in fill_rule subject) (λ p. IsFar 0 p (edges subject)) (around_shape fill_rule subject first a)) crossing.s crossing.t i j) crossing.cross)
+          | inl j ↦ absurd (not_in_one xs crossing.s crossing.t (is_planar-each xs (planar Subject first a.apart (is_in subject_rule subject) (λ p. IsFar 0 p (edges subject)) (around_shape subject_rule subject first a)) crossing.s crossing.t i j) crossing.cross)
           | inr j ↦ point_of_pairs crossing.s crossing.t i j crossing.cross in_subject in_clip
         ]
         | inr i ↦ elim (in_shapes first second crossing.t crossing.is_second) [
           | inl j ↦ point_of_pairs crossing.t crossing.s j i (sym (do_cross_back crossing.s crossing.t) ∙ crossing.cross) in_subject in_clip
-          | inr j ↦ absurd (not_in_one ys crossing.s crossing.t (is_planar-each ys (planar Clip second b.apart (is_in fill_rule clip) (λ p. IsFar 0 p (edges clip)) (around_shape fill_rule clip second b)) crossing.s crossing.t i j) crossing.cross)
+          | inr j ↦ absurd (not_in_one ys crossing.s crossing.t (is_planar-each ys (planar Clip second b.apart (is_in clip_rule clip) (λ p. IsFar 0 p (edges clip)) (around_shape clip_rule clip second b)) crossing.s crossing.t i j) crossing.cross)
         ]
       ]
 
 pub crossing_boundaries_meet : CrossingBoundariesMeet
-crossing_boundaries_meet fill_rule subject clip first second a b h = points_there fill_rule subject clip first second a b h
+crossing_boundaries_meet subject_rule clip_rule subject clip first second a b h = points_there subject_rule clip_rule subject clip first second a b h

@@ -133,23 +133,23 @@ no_contours_wind : (p : RationalPoint) → winding_number [] p ≡ pos 0
 unfolding winding_number
 no_contours_wind p = refl
 
-module _ (rule : OverlayRule) (fill_rule : FillRule) (subject clip first second region : List (List Point)) (outside : holds rule false false ≡ false) (a : IsBoundaryOf fill_rule subject first) (b : IsBoundaryOf fill_rule clip second)
+module _ (rule : OverlayRule) (subject_rule clip_rule : FillRule) (subject clip first second region : List (List Point)) (outside : holds rule false false ≡ false) (a : IsBoundaryOf subject_rule subject first) (b : IsBoundaryOf clip_rule clip second)
     (o : IsOverlayBeyond 0 rule NonZero first second region) where
   abbrev value : RationalPoint → Bool
-  value p = holds rule (is_in fill_rule subject p) (is_in fill_rule clip p)
+  value p = holds rule (is_in subject_rule subject p) (is_in clip_rule clip p)
 
   same_value : (p : RationalPoint) → 0 < p.bottom → IsBeyond 0 subject clip p → is_in_overlay rule NonZero first second p ≡ value p
   same_value p some far =
       ap₂ (λ (m n : ℤ). holds rule (is_inside NonZero m) (is_inside NonZero n))
-      (around_shape fill_rule subject first a p some (far_left p (edges subject) (edges clip) far))
-      (around_shape fill_rule clip second b p some (far_right p (edges subject) (edges clip) far))
-      ∙ ap₂ (holds rule) (nonzero_truth (is_in fill_rule subject p)) (nonzero_truth (is_in fill_rule clip p))
+      (around_shape subject_rule subject first a p some (far_left p (edges subject) (edges clip) far))
+      (around_shape clip_rule clip second b p some (far_right p (edges subject) (edges clip) far))
+      ∙ ap₂ (holds rule) (nonzero_truth (is_in subject_rule subject p)) (nonzero_truth (is_in clip_rule clip p))
 
   far_boundaries : (p : RationalPoint) → IsBeyond 0 subject clip p → IsBeyond 0 first second p
   far_boundaries p far =
       far_both p (edges first) (edges second)
-      (far_boundary fill_rule subject first a p (far_left p (edges subject) (edges clip) far))
-      (far_boundary fill_rule clip second b p (far_right p (edges subject) (edges clip) far))
+      (far_boundary subject_rule subject first a p (far_left p (edges subject) (edges clip) far))
+      (far_boundary clip_rule clip second b p (far_right p (edges subject) (edges clip) far))
 
   around_region : (p : RationalPoint) → 0 < p.bottom → IsBeyond 0 subject clip p → winding_number region p ≡ truth (value p)
   around_region p some far =
@@ -157,7 +157,7 @@ module _ (rule : OverlayRule) (fill_rule : FillRule) (subject clip first second 
       ∙ ap₂ (λ (v w : Bool). truth v -ℤ truth w) (same_value p some far) outside
       ∙ less_none (truth (value p))
 
-  nowhere : region ≡ [] → HoldsSomewhere rule fill_rule subject clip → ⊥
+  nowhere : region ≡ [] → HoldsSomewhere rule subject_rule clip_rule subject clip → ⊥
   nowhere e h =
       both_ways (value h.point)
       (none_is_false (value h.point) (sym (no_contours_wind h.point) ∙ ap (λ (c : List (List Point)). winding_number c h.point) (sym e) ∙ around_region h.point h.some h.off_edges))
@@ -172,7 +172,7 @@ module _ (rule : OverlayRule) (fill_rule : FillRule) (subject clip first second 
   lines_ordered : (g : Pair) → Has lines g → Before g.a g.b
   lines_ordered g m = elim (has_either (edges subject) (edges clip) g m) [ inl i ↦ edges_ordered subject g i | inr i ↦ edges_ordered clip g i ]
 
-  at_segment : (s : WholeSegment) → Has xs s → HoldsSomewhere rule fill_rule subject clip
+  at_segment : (s : WholeSegment) → Has xs s → HoldsSomewhere rule subject_rule clip_rule subject clip
   at_segment s m =
       let on = arranged Subject region o.apart value (λ p. IsBeyond 0 subject clip p) around_region in
       let q = beside_one xs on s m lines lines_ordered true in
@@ -185,7 +185,7 @@ module _ (rule : OverlayRule) (fill_rule : FillRule) (subject clip first second 
   unfolding contour_segments
   of_step e m = Has-map (step_segment Subject) (filter is_edge (steps region)) e (Has-filter is_edge (steps region) e m (list_all-at is_edge (steps region) e o.bound.proper.apart m))
 
-  somewhere : (region ≡ [] → ⊥) → HoldsSomewhere rule fill_rule subject clip
+  somewhere : (region ≡ [] → ⊥) → HoldsSomewhere rule subject_rule clip_rule subject clip
   somewhere some =
       let step = some_step region o.bound.proper some in
       let s = step_segment Subject step.0 in
@@ -195,5 +195,5 @@ module _ (rule : OverlayRule) (fill_rule : FillRule) (subject clip first second 
       at_segment there.0 there.1
 
 pub exact_boundaries_decide : ExactBoundariesDecide
-exact_boundaries_decide rule fill_rule subject clip first second region outside a b o =
-    (nowhere rule fill_rule subject clip first second region outside a b o, somewhere rule fill_rule subject clip first second region outside a b o)
+exact_boundaries_decide rule subject_rule clip_rule subject clip first second region outside a b o =
+    (nowhere rule subject_rule clip_rule subject clip first second region outside a b o, somewhere rule subject_rule clip_rule subject clip first second region outside a b o)

@@ -16,18 +16,18 @@ use Rattle.overlay_relations.proofs.laws.ExactRegions.{exact_boundaries_decide}
 
 -- ---- whether a rule holds somewhere
 
-of_point : (rule : OverlayRule) (fill_rule : FillRule) (subject clip : List (List Point)) (in_subject in_clip : Bool) → IsTrue (holds rule in_subject in_clip) → HasPoint fill_rule subject clip in_subject in_clip
-    → HoldsSomewhere rule fill_rule subject clip
-of_point rule fill_rule subject clip in_subject in_clip h p = record {
+of_point : (rule : OverlayRule) (subject_rule clip_rule : FillRule) (subject clip : List (List Point)) (in_subject in_clip : Bool) → IsTrue (holds rule in_subject in_clip) → HasPoint subject_rule clip_rule subject clip in_subject in_clip
+    → HoldsSomewhere rule subject_rule clip_rule subject clip
+of_point rule subject_rule clip_rule subject clip in_subject in_clip h p = record {
   point = p.point;
   some = p.some;
   off_edges = p.off_edges;
-  here = subst (λ (s : Bool). IsTrue (holds rule s (is_in fill_rule clip p.point))) (sym p.of_subject) (subst (λ (c : Bool). IsTrue (holds rule in_subject c)) (sym p.of_clip) h);
+  here = subst (λ (s : Bool). IsTrue (holds rule s (is_in clip_rule clip p.point))) (sym p.of_subject) (subst (λ (c : Bool). IsTrue (holds rule in_subject c)) (sym p.of_clip) h);
 }
 
-module _ (rule : OverlayRule) (fill_rule : FillRule) (subject clip first second : List (List Point)) (a : IsBoundaryOf fill_rule subject first) (b : IsBoundaryOf fill_rule clip second) where
+module _ (rule : OverlayRule) (subject_rule clip_rule : FillRule) (subject clip first second : List (List Point)) (a : IsBoundaryOf subject_rule subject first) (b : IsBoundaryOf clip_rule clip second) where
   -- beside a crossing are points of all kinds, so each rule that is true of some kind holds somewhere
-  pub holds_at_crossing : IsTrue (has_inexact_crossing first second) → IsTrue (holds rule true true || holds rule true false || holds rule false true) → HoldsSomewhere rule fill_rule subject clip
+  pub holds_at_crossing : IsTrue (has_inexact_crossing first second) → IsTrue (holds rule true true || holds rule true false || holds rule false true) → HoldsSomewhere rule subject_rule clip_rule subject clip
   holds_at_crossing crossing inside = elim (or_cases (holds rule true true || holds rule true false) (holds rule false true) inside) [
     | inl h ↦ elim (or_cases (holds rule true true) (holds rule true false) h) [
       | inl k ↦ of true true k
@@ -36,14 +36,14 @@ module _ (rule : OverlayRule) (fill_rule : FillRule) (subject clip first second 
     | inr h ↦ of false true h
   ]
     where
-      of : (in_subject in_clip : Bool) → IsTrue (holds rule in_subject in_clip) → HoldsSomewhere rule fill_rule subject clip
-      of in_subject in_clip h = of_point rule fill_rule subject clip in_subject in_clip h (crossing_boundaries_meet fill_rule subject clip first second a b crossing in_subject in_clip)
+      of : (in_subject in_clip : Bool) → IsTrue (holds rule in_subject in_clip) → HoldsSomewhere rule subject_rule clip_rule subject clip
+      of in_subject in_clip h = of_point rule subject_rule clip_rule subject clip in_subject in_clip h (crossing_boundaries_meet subject_rule clip_rule subject clip first second a b crossing in_subject in_clip)
 
   -- without one it holds somewhere exactly if the overlay of the boundaries is not empty
   pub holds_by_region : (region : List (List Point)) → holds rule false false ≡ false → IsOverlayBeyond 0 rule NonZero first second region → (empty : Bool) → (empty ≡ true → region ≡ []) → (empty ≡ false → region ≡ [] → ⊥)
-      → (not empty ≡ true) ↔ HoldsSomewhere rule fill_rule subject clip
-  holds_by_region region outside overlay true none some = (λ h. absurd (both_ways false refl h), λ h. absurd ((exact_boundaries_decide rule fill_rule subject clip first second region outside a b overlay).0 (none refl) h))
-  holds_by_region region outside overlay false none some = (λ h. (exact_boundaries_decide rule fill_rule subject clip first second region outside a b overlay).1 (some refl), λ h. refl)
+      → (not empty ≡ true) ↔ HoldsSomewhere rule subject_rule clip_rule subject clip
+  holds_by_region region outside overlay true none some = (λ h. absurd (both_ways false refl h), λ h. absurd ((exact_boundaries_decide rule subject_rule clip_rule subject clip first second region outside a b overlay).0 (none refl) h))
+  holds_by_region region outside overlay false none some = (λ h. (exact_boundaries_decide rule subject_rule clip_rule subject clip first second region outside a b overlay).1 (some refl), λ h. refl)
 
 -- whether a list is empty, and so the list of its images
 not_none : (n : ℕ) → (suc n == 0) ≡ false
@@ -78,40 +78,40 @@ not_both true false h e = both_ways true e refl
 not_both false true h e = both_ways true (sym e) refl
 not_both false false h e = both_ways false refl h
 
-module _ (fill_rule : FillRule) (subject clip : List (List Point)) (found : Bool) where
-  pub meeting : ((found ≡ true) ↔ HoldsSomewhere Intersect fill_rule subject clip) → (found ≡ true) ↔ InteriorsMeet fill_rule subject clip
+module _ (subject_rule clip_rule : FillRule) (subject clip : List (List Point)) (found : Bool) where
+  pub meeting : ((found ≡ true) ↔ HoldsSomewhere Intersect subject_rule clip_rule subject clip) → (found ≡ true) ↔ InteriorsMeet subject_rule clip_rule subject clip
   meeting i = (
     λ h.
         let p = i.0 h in
-        let both = and_parts (is_in fill_rule subject p.point) (is_in fill_rule clip p.point) p.here in
+        let both = and_parts (is_in subject_rule subject p.point) (is_in clip_rule clip p.point) p.here in
         record { point = p.point; some = p.some; off_edges = p.off_edges; of_subject = both.0; of_clip = both.1 },
-    λ h. i.1 (of_point Intersect fill_rule subject clip true true refl h),
+    λ h. i.1 (of_point Intersect subject_rule clip_rule subject clip true true refl h),
   )
 
-  pub covering : ((found ≡ true) ↔ HoldsSomewhere InverseDifference fill_rule subject clip) → (not found ≡ true) ↔ Covers fill_rule subject clip
+  pub covering : ((found ≡ true) ↔ HoldsSomewhere InverseDifference subject_rule clip_rule subject clip) → (not found ≡ true) ↔ Covers subject_rule clip_rule subject clip
   covering i = (
-    λ h p some far in_clip. elim (cases_Bool (is_in fill_rule subject p)) [
+    λ h p some far in_clip. elim (cases_Bool (is_in subject_rule subject p)) [
       | inl e ↦ e
-      | inr e ↦ absurd (found_none found _ i h (record { point = p; some = some; off_edges = far; here = and_from (is_in fill_rule clip p) (not (is_in fill_rule subject p)) in_clip (ap not e) }))
+      | inr e ↦ absurd (found_none found _ i h (record { point = p; some = some; off_edges = far; here = and_from (is_in clip_rule clip p) (not (is_in subject_rule subject p)) in_clip (ap not e) }))
     ],
     λ all. none_found found _ i (λ p.
-        let parts = and_parts (is_in fill_rule clip p.point) (not (is_in fill_rule subject p.point)) p.here in
-        both_ways (is_in fill_rule subject p.point) (not-true _ parts.1) (all p.point p.some p.off_edges parts.0)),
+        let parts = and_parts (is_in clip_rule clip p.point) (not (is_in subject_rule subject p.point)) p.here in
+        both_ways (is_in subject_rule subject p.point) (not-true _ parts.1) (all p.point p.some p.off_edges parts.0)),
   )
 
-  pub lying_within : ((found ≡ true) ↔ HoldsSomewhere Difference fill_rule subject clip) → (not found ≡ true) ↔ IsWithin fill_rule subject clip
+  pub lying_within : ((found ≡ true) ↔ HoldsSomewhere Difference subject_rule clip_rule subject clip) → (not found ≡ true) ↔ IsWithin subject_rule clip_rule subject clip
   lying_within i = (
-    λ h p some far in_subject. elim (cases_Bool (is_in fill_rule clip p)) [
+    λ h p some far in_subject. elim (cases_Bool (is_in clip_rule clip p)) [
       | inl e ↦ e
-      | inr e ↦ absurd (found_none found _ i h (record { point = p; some = some; off_edges = far; here = and_from (is_in fill_rule subject p) (not (is_in fill_rule clip p)) in_subject (ap not e) }))
+      | inr e ↦ absurd (found_none found _ i h (record { point = p; some = some; off_edges = far; here = and_from (is_in subject_rule subject p) (not (is_in clip_rule clip p)) in_subject (ap not e) }))
     ],
     λ all. none_found found _ i (λ p.
-        let parts = and_parts (is_in fill_rule subject p.point) (not (is_in fill_rule clip p.point)) p.here in
-        both_ways (is_in fill_rule clip p.point) (not-true _ parts.1) (all p.point p.some p.off_edges parts.0)),
+        let parts = and_parts (is_in subject_rule subject p.point) (not (is_in clip_rule clip p.point)) p.here in
+        both_ways (is_in clip_rule clip p.point) (not-true _ parts.1) (all p.point p.some p.off_edges parts.0)),
   )
 
-  pub being_same : ((found ≡ true) ↔ HoldsSomewhere Xor fill_rule subject clip) → (not found ≡ true) ↔ AreSameRegion fill_rule subject clip
+  pub being_same : ((found ≡ true) ↔ HoldsSomewhere Xor subject_rule clip_rule subject clip) → (not found ≡ true) ↔ AreSameRegion subject_rule clip_rule subject clip
   being_same i = (
-    λ h p some far. same_or_differ (is_in fill_rule subject p) (is_in fill_rule clip p) (λ d. found_none found _ i h (record { point = p; some = some; off_edges = far; here = d })),
-    λ all. none_found found _ i (λ p. not_both (is_in fill_rule subject p.point) (is_in fill_rule clip p.point) p.here (all p.point p.some p.off_edges)),
+    λ h p some far. same_or_differ (is_in subject_rule subject p) (is_in clip_rule clip p) (λ d. found_none found _ i h (record { point = p; some = some; off_edges = far; here = d })),
+    λ all. none_found found _ i (λ p. not_both (is_in subject_rule subject p.point) (is_in clip_rule clip p.point) p.here (all p.point p.some p.off_edges)),
   )

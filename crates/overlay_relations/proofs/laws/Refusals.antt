@@ -26,10 +26,10 @@ use Rattle.overlay_contours.specs.declared.fault.ContourFault.TheVariants.{OutOf
 use Rattle.overlay_contours.specs.declared.rounding.Rounding.{Rounding}
 use Rattle.overlay_contours.specs.declared.rounding.Rounding.TheVariants.{HotPixels}
 use Rattle.overlay_relations.specs.Boundaries.{has_inexact_crossing, IsBoundaryOf}
-use Rattle.overlay_relations.specs.Refusals.{IsReasonFor, IsRefusal, of_subject, of_clip, of_boundaries}
+use Rattle.overlay_relations.specs.Refusals.{IsOverlayRefusal, IsReasonFor, IsRefusal, IsRegionRefusal, of_subject, of_clip, of_boundaries}
 use Rattle.overlay_relations.specs.declared.fault.RelationFault.{RelationFault}
 use Rattle.overlay_relations.specs.declared.fault.RelationFault.TheVariants.{NotExact, Refused}
-use Rattle.overlay_relations.specs.steps.Outcomes.{IsOverlayRefusal, IsBoundaryRefusal}
+use Rattle.overlay_relations.specs.steps.Outcomes.{IsBoundaryRefusal}
 
 -- ---- what an overlay reports
 
@@ -94,31 +94,37 @@ only_memory least greatest shape_type kept points (RefusedContours fault) h r = 
 
 -- ---- refusals of relations
 
-module _ (least greatest : ℤ) (fill_rule : FillRule) (subject clip : List (List Point)) (s : IsTrue (are_in_range least greatest subject)) (c : IsTrue (are_in_range least greatest clip)) where
-  reason_of_subject : (fault : Fault) → IsReason by_snapping subject [] fault → IsReasonFor fill_rule subject clip fault
+module _ (least greatest : ℤ) (subject_rule clip_rule : FillRule) (subject clip : List (List Point)) (s : IsTrue (are_in_range least greatest subject)) (c : IsTrue (are_in_range least greatest clip)) where
+  reason_of_subject : (fault : Fault) → IsReason by_snapping subject [] fault → IsReasonFor subject_rule clip_rule subject clip fault
   reason_of_subject Memory r = tt
   reason_of_subject CountOutOfRange r = of_subject r
 
-  reason_of_clip : (fault : Fault) → IsReason by_snapping clip [] fault → IsReasonFor fill_rule subject clip fault
+  reason_of_clip : (fault : Fault) → IsReason by_snapping clip [] fault → IsReasonFor subject_rule clip_rule subject clip fault
   reason_of_clip Memory r = tt
   reason_of_clip CountOutOfRange r = of_clip r
 
-  reason_of_boundaries : (first second : List (List Point)) → IsBoundaryOf fill_rule subject first → IsBoundaryOf fill_rule clip second → (fault : Fault) → IsReason by_snapping first second fault
-      → IsReasonFor fill_rule subject clip fault
+  reason_of_boundaries : (first second : List (List Point)) → IsBoundaryOf subject_rule subject first → IsBoundaryOf clip_rule clip second → (fault : Fault) → IsReason by_snapping first second fault
+      → IsReasonFor subject_rule clip_rule subject clip fault
   reason_of_boundaries first second a b Memory r = tt
   reason_of_boundaries first second a b CountOutOfRange r = of_boundaries first second a b r
 
-  pub subject_refuses : (fault : RelationFault) → IsBoundaryRefusal Subject subject fault → IsRefusal least greatest fill_rule subject clip fault
-  subject_refuses (NotExact named) r = subst (λ (n : ShapeType). IsRefusal least greatest fill_rule subject clip (NotExact n)) (sym r.0) (s, c, r.1)
+  pub subject_refuses : (fault : RelationFault) → IsBoundaryRefusal Subject subject fault → IsRefusal least greatest subject_rule clip_rule subject clip fault
+  subject_refuses (NotExact named) r = subst (λ (n : ShapeType). IsRefusal least greatest subject_rule clip_rule subject clip (NotExact n)) (sym r.0) (s, c, r.1)
   subject_refuses (Refused (OutOfRange shape_type contour point)) r = absurd r
   subject_refuses (Refused (RefusedContours fault)) r = (s, c, reason_of_subject fault r)
 
-  pub clip_refuses : IsFalse (has_inexact_crossing subject []) → (fault : RelationFault) → IsBoundaryRefusal Clip clip fault → IsRefusal least greatest fill_rule subject clip fault
-  clip_refuses exact (NotExact named) r = subst (λ (n : ShapeType). IsRefusal least greatest fill_rule subject clip (NotExact n)) (sym r.0) (s, c, (exact, r.1))
+  pub clip_refuses : IsFalse (has_inexact_crossing subject []) → (fault : RelationFault) → IsBoundaryRefusal Clip clip fault → IsRefusal least greatest subject_rule clip_rule subject clip fault
+  clip_refuses exact (NotExact named) r = subst (λ (n : ShapeType). IsRefusal least greatest subject_rule clip_rule subject clip (NotExact n)) (sym r.0) (s, c, (exact, r.1))
   clip_refuses exact (Refused (OutOfRange shape_type contour point)) r = absurd r
   clip_refuses exact (Refused (RefusedContours fault)) r = (s, c, reason_of_clip fault r)
 
-  pub boundaries_refuse : (first second : List (List Point)) → IsBoundaryOf fill_rule subject first → IsBoundaryOf fill_rule clip second → (cause : ContourFault) → IsOverlayRefusal first second cause
-      → IsRefusal least greatest fill_rule subject clip (Refused cause)
+  pub boundaries_refuse : (first second : List (List Point)) → IsBoundaryOf subject_rule subject first → IsBoundaryOf clip_rule clip second → (cause : ContourFault) → IsOverlayRefusal first second cause
+      → IsRefusal least greatest subject_rule clip_rule subject clip (Refused cause)
   boundaries_refuse first second a b (OutOfRange shape_type contour point) r = absurd r
   boundaries_refuse first second a b (RefusedContours fault) r = (s, c, reason_of_boundaries first second a b fault r)
+
+-- of a region
+pub region_refuses : (least greatest : ℤ) (contours : List (List Point)) → IsTrue (are_in_range least greatest contours) → (fault : RelationFault) → IsBoundaryRefusal Subject contours fault → IsRegionRefusal least greatest contours fault
+region_refuses least greatest contours h (NotExact named) r = (r.0, h, r.1)
+region_refuses least greatest contours h (Refused (OutOfRange shape_type contour point)) r = absurd r
+region_refuses least greatest contours h (Refused (RefusedContours fault)) r = (h, r)

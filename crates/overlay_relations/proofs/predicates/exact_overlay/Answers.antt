@@ -4,7 +4,7 @@ use Rattle.overlay_contours.specs.ContoursOf.{contours_of}
 use Rattle.overlay_contours.specs.Kept.{subject_of, clip_of, passes_of, reach_of, rounding_of}
 use Rattle.overlay_contours.specs.declared.fault.ContourFault.TheVariants.{Refused as RefusedContours}
 use Rattle.overlay_contours.proofs.laws.Overlays.{refused_as}
-use Rattle.overlay_relations.specs.steps.Outcomes.{IsOverlayRefusal}
+use Rattle.overlay_relations.specs.Refusals.{IsOverlayRefusal}
 use Rattle.overlay_relations.proofs.laws.Refusals.{exact_where_none, inexact_where_some, overlay_where_none, overlay_refuses}
 use Rattle.overlay_relations.proofs.predicates.exact_overlay.Goals as goal
 

@@ -12,5 +12,5 @@ pub returns-clause-meet : goal.returns-clause-meet
 returns-clause-meet g c =
     let subject : List (List Point) = contours_of g.I.OverlayInt.whole c.args.subject.now in
     let clip : List (List Point) = contours_of g.I.OverlayInt.whole c.args.clip.now in
-    IfOk-weaker c.holds_somewhere.result (λ (found : Bool). (found ≡ true) ↔ HoldsSomewhere Intersect c.args.fill_rule subject clip) (λ (found : Bool). (found ≡ true) ↔ InteriorsMeet c.args.fill_rule subject clip)
-    (meeting c.args.fill_rule subject clip) c.holds_somewhere.ensures.holds
+    IfOk-weaker c.holds_somewhere.result (λ (found : Bool). (found ≡ true) ↔ HoldsSomewhere Intersect c.args.fill_rule c.args.fill_rule subject clip) (λ (found : Bool). (found ≡ true) ↔ InteriorsMeet c.args.fill_rule c.args.fill_rule subject clip)
+    (meeting c.args.fill_rule c.args.fill_rule subject clip) c.holds_somewhere.ensures.holds

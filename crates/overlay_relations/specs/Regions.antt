@@ -1,0 +1,39 @@
+-- What prepared regions decide of shapes.
+use Rattle.std.specs.Prelude.{◌≡◌, ◌↔◌, Bool, true, List}
+use Rattle.overlay_geometry.specs.Points.{Point}
+use Rattle.overlay_base.specs.declared.overlay_core.fill_rule.FillRule.{FillRule}
+use Rattle.overlay_contours.specs.ContoursOf.{contours_of}
+use Rattle.overlay_relations.specs.Boundaries.{IsBoundaryOf}
+use Rattle.overlay_relations.specs.Relations.{InteriorsMeet, Covers, IsWithin, AreSameRegion}
+use Rattle.overlay_relations.specs.declared.region.Region.{Region}
+
+-- the boundary that a region keeps
+abbrev pub boundary_of : {I : Type 0} {w : _} {o : _} {e : _} {p : _} → Region I w o e p → List (List Point)
+boundary_of {w = w} region = contours_of w.whole region.boundary.items
+
+-- The region is that of contours under a fill rule.
+abbrev pub IsRegionOf : {I : Type 0} {w : _} {o : _} {e : _} {p : _} → FillRule → List (List Point) → Region I w o e p → Type 0
+IsRegionOf fill_rule contours region = IsBoundaryOf fill_rule contours (boundary_of region)
+
+-- A relation of two shapes, each a list of contours under a fill rule.
+abbrev Relation : Type 1
+Relation = FillRule → FillRule → List (List Point) → List (List Point) → Type 0
+
+-- The value says whether a relation holds between any two shapes that have these regions.
+abbrev Decides : {I : Type 0} {w : _} {o : _} {e : _} {p : _} → Relation → Region I w o e p → Region I w o e p → Bool → Type 0
+Decides relation first second found =
+    (subject_rule clip_rule : FillRule) (subject clip : List (List Point)) → IsRegionOf subject_rule subject first → IsRegionOf clip_rule clip second →
+    (found ≡ true) ↔ relation subject_rule clip_rule subject clip
+
+-- It says so of interiors that meet, of a first shape that covers the second, of one that is within it, and of one region.
+abbrev pub DecidesMeeting : {I : Type 0} {w : _} {o : _} {e : _} {p : _} → Region I w o e p → Region I w o e p → Bool → Type 0
+DecidesMeeting first second found = Decides InteriorsMeet first second found
+
+abbrev pub DecidesCovering : {I : Type 0} {w : _} {o : _} {e : _} {p : _} → Region I w o e p → Region I w o e p → Bool → Type 0
+DecidesCovering first second found = Decides Covers first second found
+
+abbrev pub DecidesLyingWithin : {I : Type 0} {w : _} {o : _} {e : _} {p : _} → Region I w o e p → Region I w o e p → Bool → Type 0
+DecidesLyingWithin first second found = Decides IsWithin first second found
+
+abbrev pub DecidesSameness : {I : Type 0} {w : _} {o : _} {e : _} {p : _} → Region I w o e p → Region I w o e p → Bool → Type 0
+DecidesSameness first second found = Decides AreSameRegion first second found

@@ -1,0 +1,123 @@
+// A shape prepared for relations to others.
+ghost use Rattle.std.specs.Prelude.{◌≡◌, ◌↔◌, true, IsTrue, OnOk, IfOk, IfErr};
+ghost use Rattle.overlay_base.specs.declared.segm.shape_type.ShapeType.TheVariants.{Subject};
+ghost use Rattle.overlay_contours.specs.ContoursIn.{LieInRange};
+ghost use Rattle.overlay_contours.specs.ContoursOf.{contours_of};
+ghost use Rattle.overlay_contours.specs.ContourSegments.{are_in_range};
+ghost use Rattle.overlay_relations.specs.Refusals.{IsOverlayRefusal, IsRegionRefusalOf};
+
+use crate::fault::RelationFault;
+use crate::predicates::{exact_boundary, holds_between, test_range};
+use overlay_base::overlay_core::fill_rule::FillRule;
+use overlay_base::overlay_core::overlay_rule::OverlayRule;
+use overlay_base::overlay_core::solver::Solver;
+use overlay_base::segm::shape_type::ShapeType;
+use overlay_contours::contour::IntContour;
+use overlay_contours::fault::ContourFault;
+use overlay_geometry::num::OverlayInt;
+use std::alloc::Global;
+
+/// The region of a shape, prepared for relations to other regions: its boundary is found once.
+#[derive(Drop)]
+pub struct Region<I: OverlayInt> {
+    alloc: Global,
+    boundary: Vec<IntContour<I>>,
+    pub ghost in_range: { IsTrue (are_in_range (I.whole I.MIN_COORD) (I.whole I.MAX_COORD)
+        (contours_of I.whole boundary.items)) },
+}
+
+impl<I: OverlayInt> Region<I> {
+    ghost use Rattle.overlay_relations.specs.Regions.{boundary_of, IsRegionOf, DecidesMeeting, DecidesCovering, DecidesLyingWithin, DecidesSameness};
+
+    /// The region of contours under a fill rule. Two regions that are compared may have two fill rules.
+    ///
+    /// The contours may cross and touch, and run either way. The solver's strategy does not change the result of any
+    /// relation, nor does its precision.
+    ///
+    /// Returns what the function `interiors_meet` does of a subject where it is refused.
+    pub fn new(
+        alloc: Global,
+        contours: &[IntContour<I>],
+        solver: &Solver,
+        fill_rule: FillRule,
+    ) -> Result<Region<I>, RelationFault>
+        ensures region { IfOk result (λ region. IsRegionOf fill_rule (contours_of I.whole contours.now) region) }
+        ensures refused { IfErr result (IsRegionRefusalOf I.OverlayInt.own contours.now) }
+        ensures in_range { OnOk result (LieInRange I.whole I.MIN_COORD I.MAX_COORD contours.now) }
+    {
+        test_range(contours, ShapeType::Subject)?;
+        let boundary = exact_boundary(alloc, contours, ShapeType::Subject, solver, fill_rule)?;
+        Ok(Region { alloc, boundary })
+    }
+
+    /// The boundary of the region: contours that have it on their left. No two of their edges share more than an end.
+    pub fn boundary(&self) -> &[IntContour<I>]
+        ensures boundary { contours_of I.whole result.now ≡ boundary_of self.now }
+        ensures in_range { LieInRange I.whole I.MIN_COORD I.MAX_COORD result.now }
+    {
+        &self.boundary
+    }
+
+    /// Whether some point of the plane is inside both regions, as the function `interiors_meet` returns it.
+    ///
+    /// Returns `Fault::CountOutOfRange` only where counts of both boundaries leave `-i32::MAX..=i32::MAX`, and
+    /// `Fault::Memory` where a growth is refused.
+    pub fn interiors_meet(&self, other: &Region<I>, solver: &Solver) -> Result<bool, ContourFault>
+        ensures meet { IfOk result (DecidesMeeting self.now other.now) }
+        ensures refused { IfErr result (IsOverlayRefusal (boundary_of self.now) (boundary_of other.now)) }
+    {
+        holds_between(
+            self.alloc,
+            &self.boundary,
+            &other.boundary,
+            solver,
+            OverlayRule::Intersect,
+        )
+    }
+
+    /// Whether each point inside the other region is inside this one: this one covers it. Errors are those of
+    /// `interiors_meet`.
+    pub fn covers(&self, other: &Region<I>, solver: &Solver) -> Result<bool, ContourFault>
+        ensures covers { IfOk result (DecidesCovering self.now other.now) }
+        ensures refused { IfErr result (IsOverlayRefusal (boundary_of self.now) (boundary_of other.now)) }
+    {
+        let is_left = holds_between(
+            self.alloc,
+            &self.boundary,
+            &other.boundary,
+            solver,
+            OverlayRule::InverseDifference,
+        )?;
+        Ok(!is_left)
+    }
+
+    /// Whether each point inside this region is inside the other one. Errors are those of `interiors_meet`.
+    pub fn is_within(&self, other: &Region<I>, solver: &Solver) -> Result<bool, ContourFault>
+        ensures within { IfOk result (DecidesLyingWithin self.now other.now) }
+        ensures refused { IfErr result (IsOverlayRefusal (boundary_of self.now) (boundary_of other.now)) }
+    {
+        let is_left = holds_between(
+            self.alloc,
+            &self.boundary,
+            &other.boundary,
+            solver,
+            OverlayRule::Difference,
+        )?;
+        Ok(!is_left)
+    }
+
+    /// Whether each point is inside both regions, or inside neither. Errors are those of `interiors_meet`.
+    pub fn same_region(&self, other: &Region<I>, solver: &Solver) -> Result<bool, ContourFault>
+        ensures same { IfOk result (DecidesSameness self.now other.now) }
+        ensures refused { IfErr result (IsOverlayRefusal (boundary_of self.now) (boundary_of other.now)) }
+    {
+        let differ = holds_between(
+            self.alloc,
+            &self.boundary,
+            &other.boundary,
+            solver,
+            OverlayRule::Xor,
+        )?;
+        Ok(!differ)
+    }
+}
