@@ -4,6 +4,7 @@ pub mod Handles
 pub mod LinkData
 pub mod Meetings
 pub mod Overlays
+pub mod Refusals
 pub mod Steps
 pub mod Usable
 pub mod Values

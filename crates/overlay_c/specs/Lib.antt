@@ -5,6 +5,7 @@ pub mod Crosses
 pub mod Kept
 pub mod Owned
 pub mod Records
+pub mod Relations
 pub mod Status
 pub mod Tags
 pub mod Widths

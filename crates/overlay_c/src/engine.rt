@@ -1,5 +1,5 @@
 // The engine behind a handle: what splits and builds, and what overlays contours.
-ghost use Rattle.std.specs.Prelude.{◌≡◌, ◌∷◌, ◌++◌, [], false, None, IsTrue, IsFalse, IfSome, OnOk, OnErr, IfErr, map, length};
+ghost use Rattle.std.specs.Prelude.{◌≡◌, ◌↔◌, ◌∷◌, ◌++◌, [], true, false, None, IsTrue, IsFalse, IfSome, OnOk, OnErr, IfOk, IfErr, map, length};
 ghost use Rattle.overlay_c.specs.Calls.{KeepsRulesBy, SameResult, HasArrangement, HasNoArrangement, MaySplit, MayNotSplit, MaySplitLines, MayNotSplitLines};
 ghost use Rattle.overlay_c.specs.Status.{OnUnusable, OnTooLarge};
 
@@ -11,6 +11,7 @@ use crate::records::{
     overlay_rules, rounding, solver, words, write_links, write_records,
 };
 use crate::refusal::Refusal;
+use crate::relations::{Relation, holds};
 use crate::tags::{Tag, TaggedRecord};
 use crate::width::is_narrow;
 use overlay_base::overlay_core::clip_rule::ClipRule;
@@ -21,6 +22,7 @@ use overlay_contours::arrangement::Arrangement;
 use overlay_contours::overlay::Overlay;
 use overlay_geometry::geom::point::IntPoint;
 use overlay_geometry::num::OverlayInt;
+use overlay_relations::fault::RelationFault;
 use std::alloc::Global;
 
 /// What is kept from one call to the next.
@@ -58,6 +60,8 @@ impl Engine {
     ghost use Rattle.overlay_contours.specs.Refusals.{other_shape};
     ghost use Rattle.overlay_c.specs.Contours.{point_by, are_in_range, location_code, contours_in, IsPointRefusal, IsPolygonRefusal};
     ghost use Rattle.overlay_c.specs.Contours.{KeepsPolygons, KeepsShapes, SameSplit, SameReport};
+    ghost use Rattle.overlay_c.specs.Records.{fill_rule_of};
+    ghost use Rattle.overlay_c.specs.Relations.{Holds, IsRelationRefusal};
     ghost use Rattle.overlay_c.specs.Arranged.{KeepsArrangement, KeepsArrangedContours, KeepsArrangedShapes, IsArrangedRefusal, SameArrangement, IsReportOf, IsReportOfNothing};
 
     /// An engine, which takes no memory yet.
@@ -569,6 +573,28 @@ impl Engine {
         } else {
             4
         }
+    }
+
+    /// Whether a relation holds between the subject and the clip that were added, under the fill rule of the settings.
+    pub fn relation(
+        &self,
+        alloc: Global,
+        settings: &SettingsRecord,
+        relation: Relation,
+    ) -> Result<bool, RelationFault>
+        ensures holds { IfOk result (λ holds. (holds ≡ true) ↔ Holds relation (fill_rule_of settings.now.fill_rule)
+            (contours_in self.now Subject) (contours_in self.now Clip)) }
+        ensures refused { IfErr result (IsRelationRefusal (fill_rule_of settings.now.fill_rule) (contours_in self.now Subject)
+            (contours_in self.now Clip)) }
+    {
+        let fill_rule = fill_rule(settings.fill_rule);
+        holds(
+            alloc,
+            &self.polygons,
+            relation,
+            &solver(settings),
+            fill_rule,
+        )
     }
 
     /// What the last overlay of contours that was not refused reports of its run.

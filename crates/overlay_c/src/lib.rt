@@ -1,7 +1,7 @@
 // The overlay engine for C: exports over an engine behind a handle, for coordinates of 32 bits or of 16.
 #![tactic(auto)]
 
-ghost use Rattle.std.specs.Prelude.{◌≡◌, ◌≢◌, ◌≤ℤ◌, pos, unsigned_abs, ◌↔◌, ◌<◌, ◌^◌, [], ◌∷◌, ◌++◌, false, None, IsSome, IsTrue, IsFalse, IfSome, length, map};
+ghost use Rattle.std.specs.Prelude.{◌≡◌, ◌≢◌, ◌≤ℤ◌, pos, unsigned_abs, ◌↔◌, ◌<◌, ◌^◌, [], ◌∷◌, ◌++◌, true, false, None, IsSome, IsTrue, IsFalse, IfSome, length, map};
 ghost use Rattle.overlay_base.specs.Join.{join, join_leaves_range, has_equal_pairs};
 ghost use Rattle.overlay_split.specs.SettingsOf.{snap_limit_of};
 ghost use Rattle.overlay_c.specs.Records.{start_of, end_of, line_asked_by, told_by, line_told_by, link_by, shape_of, fill_rule_of, number_by};
@@ -18,6 +18,8 @@ ghost use Rattle.overlay_base.specs.declared.segm.shape_type.ShapeType.TheVarian
 ghost use Rattle.overlay_contours.specs.Kept.{passes_of, reach_of};
 ghost use Rattle.overlay_contours.specs.Refusals.{other_shape};
 ghost use Rattle.overlay_c.specs.Contours.{are_in_range, location_code, contours_in, SameSplit, SameReport};
+ghost use Rattle.overlay_c.specs.Relations.{relation_of, Holds, ShapeCountsLeaveRange, IsRelationCode};
+ghost use Rattle.overlay_relations.specs.Refusals.{IsNotExact};
 
 pub mod contours;
 pub mod cores;
@@ -28,6 +30,7 @@ pub mod lines;
 pub(crate) mod raw_box;
 pub mod records;
 pub mod refusal;
+pub mod relations;
 pub mod tags;
 pub mod width;
 
@@ -40,6 +43,7 @@ use crate::records::{
     overlay_rule, shape_type,
 };
 use crate::refusal::status;
+use crate::relations::{fault_code, named_relation};
 use crate::tags::{Tag, TaggedRecord};
 use overlay_base::overlay_core::clip_rule::ClipRule;
 use std::alloc::Global;
@@ -504,6 +508,47 @@ pub extern "C" fn overlay_c_locate(
     let location = engine.locate(shape_type(shape), fill_rule(fill), point);
     put(handle, engine);
     location
+}
+
+/// Whether a relation holds between the subject and the clip that were added, exactly: nothing is rounded, and only points on
+/// no edge of either shape count. The relation is that of a code: 0 if some point is inside both, 1 if each point inside the
+/// clip is inside the subject, 2 if each point inside the subject is inside the clip, and else that both are the same region. Of
+/// the settings it takes the strategy and the fill rule.
+///
+/// Returns 0 where `holds` says whether it does, 1 where memory was refused, 2 where a count left the range, 6 where two edges
+/// of the subject cross at a point without integer coordinates, and 7 where two edges of the clip do, and none of the subject.
+/// After any other code than 0 `holds` is unchanged.
+#[unsafe(no_mangle)]
+pub extern "C" fn overlay_c_relation(
+    alloc: Global,
+    handle: &mut Handle,
+    settings: &SettingsRecord,
+    code: u8,
+    holds: &mut bool,
+) -> u8
+    requires { IsSome handle.old.engine }
+    ensures same { handle.new.engine ≡ handle.old.engine }
+    ensures holds { result ≡ 0 → IfSome handle.old.engine (λ engine. (holds.new ≡ true) ↔ Holds (relation_of code)
+        (fill_rule_of settings.now.fill_rule) (contours_in engine Subject) (contours_in engine Clip)) }
+    ensures unchanged { result ≢ 0 → holds.new ≡ holds.old }
+    ensures too_large { result ≡ 2 → IfSome handle.old.engine (λ engine. ShapeCountsLeaveRange
+        (fill_rule_of settings.now.fill_rule) (contours_in engine Subject) (contours_in engine Clip)) }
+    ensures subject_not_exact { result ≡ 6 → IfSome handle.old.engine (λ engine. IsNotExact (contours_in engine Subject)
+        (contours_in engine Clip) Subject) }
+    ensures clip_not_exact { result ≡ 7 → IfSome handle.old.engine (λ engine. IsNotExact (contours_in engine Subject)
+        (contours_in engine Clip) Clip) }
+    ensures codes { IsRelationCode result }
+{
+    let engine = take(alloc, handle);
+    let outcome = engine.relation(alloc, settings, named_relation(code));
+    put(handle, engine);
+    match outcome {
+        Ok(found) => {
+            *holds = found;
+            0
+        }
+        Err(fault) => fault_code(fault),
+    }
 }
 
 /// What the last overlay of contours, in shapes or not, reports of its run: how many passes it made, and how far these
