@@ -25,7 +25,9 @@ const char *fadrinzo_text(int status)
     case FADRINZO_NO_MEMORY: return "there is not enough memory";
     case FADRINZO_COUNT_OUT_OF_RANGE: return "the contours wind more than 2147483647 times around a point";
     case FADRINZO_POINT_OUT_OF_RANGE: return "a coordinate is outside of -1073741824 to 1073741823";
-    case FADRINZO_BAD_ARGUMENT: return "a pointer is null, no contours are arranged, or there is no such shape, rule or fill rule";
+    case FADRINZO_BAD_ARGUMENT: return "a pointer is null, no contours are arranged, or there is no such shape, rule, fill rule or relation";
+    case FADRINZO_SUBJECT_NOT_EXACT: return "two edges of the subject cross at a point without integer coordinates";
+    case FADRINZO_CLIP_NOT_EXACT: return "two edges of the clip cross at a point without integer coordinates";
     default: return "there is no such status";
     }
 }
@@ -78,6 +80,71 @@ fadrinzo_status fadrinzo_add_contour(fadrinzo *overlay, int shape, const int32_t
     if (!overlay || (!xy && points) || !is_shape(shape))
         return FADRINZO_BAD_ARGUMENT;
     return (fadrinzo_status)overlay_c_add_contour(&overlay->handle, (const fadrinzo_point *)xy, points, (uint8_t)shape);
+}
+
+/* Whether points are in range. */
+static int are_in_range(const int32_t *xy, size_t points)
+{
+    for (size_t i = 0; i < points; i++)
+        for (size_t axis = 0; axis < 2; axis++)
+            if (xy[2 * i + axis] < FADRINZO_MIN_COORD || xy[2 * i + axis] > FADRINZO_MAX_COORD)
+                return 0;
+    return 1;
+}
+
+/* The sign of the area of a ring of points in range, exactly: the halves of its terms are added up apart, so no sum leaves 64 bits. */
+static int sign_of_area(const int32_t *xy, size_t points)
+{
+    int64_t high = 0, low = 0;
+    for (size_t i = 0; i < points; i++) {
+        size_t next = i + 1 < points ? i + 1 : 0;
+        int64_t term = (int64_t)xy[2 * i] * xy[2 * next + 1] - (int64_t)xy[2 * i + 1] * xy[2 * next];
+        int64_t rest = term & 0xffffffff;
+        high += (term - rest) / 4294967296;
+        low += rest;
+    }
+    high += low / 4294967296;
+    return high < 0 ? -1 : high > 0 || low % 4294967296 != 0;
+}
+
+/* Adds a ring, turned if it runs the other way. */
+static fadrinzo_status add_ring(fadrinzo *overlay, int shape, const int32_t *xy, size_t points, int wanted_sign)
+{
+    if (points > 1 && xy[0] == xy[2 * points - 2] && xy[1] == xy[2 * points - 1])
+        points--;
+    if (sign_of_area(xy, points) != -wanted_sign)
+        return fadrinzo_add_contour(overlay, shape, xy, points);
+    int32_t *turned = malloc(points * 2 * sizeof *turned);
+    if (!turned)
+        return FADRINZO_NO_MEMORY;
+    for (size_t i = 0; i < points; i++) {
+        turned[2 * i] = xy[2 * (points - 1 - i)];
+        turned[2 * i + 1] = xy[2 * (points - 1 - i) + 1];
+    }
+    fadrinzo_status status = fadrinzo_add_contour(overlay, shape, turned, points);
+    free(turned);
+    return status;
+}
+
+fadrinzo_status fadrinzo_add_polygon(fadrinzo *overlay, int shape, const int32_t *xy, const size_t *lengths, size_t rings)
+{
+    if (!overlay || (!lengths && rings) || !is_shape(shape))
+        return FADRINZO_BAD_ARGUMENT;
+    size_t points = 0;
+    for (size_t i = 0; i < rings; i++)
+        points += lengths[i];
+    if (!xy && points)
+        return FADRINZO_BAD_ARGUMENT;
+    if (!are_in_range(xy, points))
+        return FADRINZO_POINT_OUT_OF_RANGE;
+    size_t start = 0;
+    for (size_t i = 0; i < rings; i++) {
+        fadrinzo_status status = add_ring(overlay, shape, points ? xy + 2 * start : NULL, lengths[i], i == 0 ? 1 : -1);
+        if (status != FADRINZO_OK)
+            return status;
+        start += lengths[i];
+    }
+    return FADRINZO_OK;
 }
 
 /* Makes starts of so many lengths, with one element of room behind them. */
@@ -147,6 +214,11 @@ static int is_rule(int rule)
 static int is_fill_rule(int fill_rule)
 {
     return fill_rule >= FADRINZO_FILL_EVEN_ODD && fill_rule <= FADRINZO_FILL_NEGATIVE;
+}
+
+static int is_relation(int relation)
+{
+    return relation >= FADRINZO_INTERIORS_MEET && relation <= FADRINZO_SAME_REGION;
 }
 
 /* The strategy Auto, snap rounding. */
@@ -240,6 +312,18 @@ fadrinzo_location fadrinzo_locate(fadrinzo *overlay, int shape, int fill_rule, i
     uint8_t code = overlay_c_locate(&overlay->handle, &point, (uint8_t)shape, (uint8_t)fill_rule);
     /* a point out of range lies outside of all contours */
     return code > FADRINZO_OUTSIDE ? FADRINZO_OUTSIDE : (fadrinzo_location)code;
+}
+
+fadrinzo_status fadrinzo_relation(fadrinzo *overlay, int relation, int fill_rule, int *holds)
+{
+    if (!overlay || !holds || !is_relation(relation) || !is_fill_rule(fill_rule))
+        return FADRINZO_BAD_ARGUMENT;
+    fadrinzo_settings settings = settings_for(fill_rule);
+    bool found = false;
+    uint8_t status = overlay_c_relation(&overlay->handle, &settings, (uint8_t)relation, &found);
+    if (status == FADRINZO_OK)
+        *holds = found;
+    return (fadrinzo_status)status;
 }
 
 fadrinzo_result fadrinzo_get(const fadrinzo *overlay)

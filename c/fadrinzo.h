@@ -11,7 +11,7 @@ extern "C" {
 #endif
 
 /* The version of these declarations. fadrinzo_version returns that of the library. */
-#define FADRINZO_VERSION 1
+#define FADRINZO_VERSION 2
 
 /* The least and the greatest coordinate. */
 #define FADRINZO_MIN_COORD (-1073741824)
@@ -23,7 +23,9 @@ typedef enum {
     FADRINZO_NO_MEMORY = 1,
     FADRINZO_COUNT_OUT_OF_RANGE = 2,
     FADRINZO_POINT_OUT_OF_RANGE = 4,
-    FADRINZO_BAD_ARGUMENT = 5
+    FADRINZO_BAD_ARGUMENT = 5,
+    FADRINZO_SUBJECT_NOT_EXACT = 6,
+    FADRINZO_CLIP_NOT_EXACT = 7
 } fadrinzo_status;
 
 /* The shape to which a contour is added. */
@@ -58,13 +60,25 @@ typedef enum {
     FADRINZO_LOCATION_BAD_ARGUMENT = 5
 } fadrinzo_location;
 
+/* A relation of the subject and the clip. It reads the points of the plane on no edge of either, with any rational coordinates. */
+enum {
+    /* some point is inside both */
+    FADRINZO_INTERIORS_MEET = 0,
+    /* each point inside the clip is inside the subject */
+    FADRINZO_COVERS = 1,
+    /* each point inside the subject is inside the clip */
+    FADRINZO_IS_WITHIN = 2,
+    /* each point is inside both, or inside neither */
+    FADRINZO_SAME_REGION = 3
+};
+
 /* The contours of a subject and of a clip, and the result of their last overlay. Of use to one thread at a time. */
 typedef struct fadrinzo fadrinzo;
 
 /* The result of the last overlay: points as x, y, x, y, .., contour after contour, and contours shape after shape. Contour i has the
    points from contour_starts[i] to before contour_starts[i + 1], and shape i the contours from shape_starts[i] to before
    shape_starts[i + 1], its outer boundary first. There are no shapes after fadrinzo_overlay. All is valid until the next call
-   on the overlay but fadrinzo_locate. */
+   on the overlay but fadrinzo_locate and fadrinzo_relation. */
 typedef struct {
     const int32_t *xy;
     const size_t *contour_starts;
@@ -97,6 +111,13 @@ fadrinzo_status fadrinzo_clear(fadrinzo *overlay);
    edges with the same two ends cancel before anything is cut if they run against one another, and cut others if they run alike. */
 fadrinzo_status fadrinzo_add_contour(fadrinzo *overlay, int shape, const int32_t *xy, size_t points);
 
+/* Adds a polygon of so many rings to the subject or to the clip: ring i has lengths[i] points, behind those of the rings before it. The
+   first ring is the outer boundary, and the others are holes. Rings may run either way: the outer boundary is turned counterclockwise
+   and each hole clockwise, by the sign of the exact area. A last point that repeats the first is dropped. So holes that lie apart in the
+   outer boundary are holes, under each fill rule but FADRINZO_FILL_NEGATIVE. If a point is out of range nothing is added; if there is no
+   memory the rings before are. */
+fadrinzo_status fadrinzo_add_polygon(fadrinzo *overlay, int shape, const int32_t *xy, const size_t *lengths, size_t rings);
+
 /* Makes the overlay of the contours that were added, as contours: outer boundaries counterclockwise, holes clockwise. The contours
    that were added stay. */
 fadrinzo_status fadrinzo_overlay(fadrinzo *overlay, int rule, int fill_rule);
@@ -122,6 +143,12 @@ fadrinzo_status fadrinzo_arranged_shapes(fadrinzo *overlay, int rule, int corner
 /* Where a point lies with respect to the contours of a shape that were added: on the boundary if it lies on a step of one of them, else
    inside or outside by the fill rule. FADRINZO_LOCATION_BAD_ARGUMENT if the overlay is null, or there is no such shape or fill rule. */
 fadrinzo_location fadrinzo_locate(fadrinzo *overlay, int shape, int fill_rule, int32_t x, int32_t y);
+
+/* Whether a relation holds between the subject and the clip that were added, exactly: nothing is rounded. After FADRINZO_OK holds is 1 or
+   0, else it is unchanged. FADRINZO_SUBJECT_NOT_EXACT if two edges of the subject cross at a point without integer coordinates, as those of
+   valid polygons never do, and FADRINZO_CLIP_NOT_EXACT if two edges of the clip do. The overlay of such a shape by FADRINZO_RULE_SUBJECT has
+   no such crossing, and is the same region but for rounding. */
+fadrinzo_status fadrinzo_relation(fadrinzo *overlay, int relation, int fill_rule, int *holds);
 
 /* The result of the last overlay. Nothing after one that failed, for whatever reason: a wrong argument, a refused growth, a count. A call that
    makes no overlay leaves it, but for fadrinzo_clear. */

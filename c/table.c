@@ -298,6 +298,124 @@ static void check_middles(void)
     fadrinzo_free(overlay);
 }
 
+/* A polygon with a hole, each of its rings either way and closed or not: the hole is one. */
+static void check_polygons(void)
+{
+    for (int ways = 0; ways < 16; ways++) {
+        int32_t xy[20];
+        size_t lengths[2], points = 0;
+        for (int ring = 0; ring < 2; ring++) {
+            const int32_t *corners = squares[ring].xy;
+            lengths[ring] = ways >> (2 + ring) & 1 ? 5 : 4;
+            for (size_t k = 0; k < lengths[ring]; k++, points++) {
+                size_t at = (ways >> ring & 1 ? 4 - k % 4 : k) % 4;
+                xy[2 * points] = corners[2 * at];
+                xy[2 * points + 1] = corners[2 * at + 1];
+            }
+        }
+        fadrinzo *overlay = fadrinzo_new();
+        CHECK(overlay, "memory");
+        CHECK(fadrinzo_add_polygon(overlay, FADRINZO_SUBJECT, xy, lengths, 2) == FADRINZO_OK, "ways %x", ways);
+        CHECK(fadrinzo_add_polygon(overlay, FADRINZO_SUBJECT, NULL, NULL, 0) == FADRINZO_OK, "no rings");
+        CHECK(fadrinzo_overlay_shapes(overlay, FADRINZO_RULE_SUBJECT, FADRINZO_FILL_POSITIVE) == FADRINZO_OK, "ways %x", ways);
+        fadrinzo_result found = fadrinzo_get(overlay);
+        CHECK(found.shapes == 1 && found.contours == 2 && found.points == 8, "ways %x", ways);
+        CHECK(doubled_area(found, 0) == 288 && doubled_area(found, 1) == -128, "ways %x", ways);
+        xy[0] = FADRINZO_MAX_COORD;
+        xy[2 * points - 1] = FADRINZO_MIN_COORD - 1;
+        CHECK(fadrinzo_clear(overlay) == FADRINZO_OK, "clear");
+        CHECK(fadrinzo_add_polygon(overlay, FADRINZO_CLIP, xy, lengths, 2) == FADRINZO_POINT_OUT_OF_RANGE, "a point out of range");
+        CHECK(fadrinzo_overlay(overlay, FADRINZO_RULE_CLIP, FADRINZO_FILL_NON_ZERO) == FADRINZO_OK && !fadrinzo_get(overlay).contours, "nothing is added");
+        fadrinzo_free(overlay);
+    }
+    /* a ring along the ends of the range: its area has 63 bits */
+    int32_t least = FADRINZO_MIN_COORD, most = FADRINZO_MAX_COORD, whole[8] = {least, least, least, most, most, most, most, least};
+    size_t length = 4;
+    fadrinzo *overlay = fadrinzo_new();
+    CHECK(overlay, "memory");
+    CHECK(fadrinzo_add_polygon(overlay, FADRINZO_CLIP, whole, &length, 1) == FADRINZO_OK, "the whole range");
+    CHECK(fadrinzo_overlay(overlay, FADRINZO_RULE_CLIP, FADRINZO_FILL_POSITIVE) == FADRINZO_OK && fadrinzo_get(overlay).contours == 1, "the whole range");
+    CHECK(fadrinzo_add_polygon(overlay, 2, whole, &length, 1) == FADRINZO_BAD_ARGUMENT, "shape 2");
+    CHECK(fadrinzo_add_polygon(overlay, 0, NULL, &length, 1) == FADRINZO_BAD_ARGUMENT, "null");
+    CHECK(fadrinzo_add_polygon(overlay, 0, whole, NULL, 1) == FADRINZO_BAD_ARGUMENT, "null");
+    CHECK(fadrinzo_add_polygon(NULL, 0, whole, &length, 1) == FADRINZO_BAD_ARGUMENT, "null");
+    fadrinzo_free(overlay);
+}
+
+/* Squares in one another, for the subject and for the clip, and one that reaches out of them. */
+static const contour nested[6] = {
+    {FADRINZO_SUBJECT, 4, {0, 0, 12, 0, 12, 12, 0, 12}},
+    {FADRINZO_SUBJECT, 4, {2, 2, 10, 2, 10, 10, 2, 10}},
+    {FADRINZO_SUBJECT, 4, {10, 6, 10, 20, 20, 20, 20, 6}},
+    {FADRINZO_CLIP, 4, {2, 10, 10, 10, 10, 2, 2, 2}},
+    {FADRINZO_CLIP, 4, {0, 0, 12, 0, 12, 12, 0, 12}},
+    {FADRINZO_CLIP, 4, {4, 4, 6, 4, 6, 6, 4, 6}},
+};
+
+/* Whether a relation holds between the given contours, by its definition: their sides lie along the axes, so each unit square is inside or
+   outside as a whole. */
+static int relation_of_given(int relation, int fill_rule)
+{
+    int in_both = 0, in_subject_alone = 0, in_clip_alone = 0;
+    for (int x = 0; x < SPAN; x++)
+        for (int y = 0; y < SPAN; y++) {
+            int s = is_inside(fill_rule, winding_of_given(FADRINZO_SUBJECT, x, y));
+            int c = is_inside(fill_rule, winding_of_given(FADRINZO_CLIP, x, y));
+            in_both |= s && c;
+            in_subject_alone |= s && !c;
+            in_clip_alone |= c && !s;
+        }
+    switch (relation) {
+    case FADRINZO_INTERIORS_MEET: return in_both;
+    case FADRINZO_COVERS: return !in_clip_alone;
+    case FADRINZO_IS_WITHIN: return !in_subject_alone;
+    default: return !in_subject_alone && !in_clip_alone;
+    }
+}
+
+/* All relations of each choice of the nested squares. */
+static void check_relations(void)
+{
+    for (unsigned chosen = 0; chosen < 64; chosen++) {
+        contour some[6];
+        size_t count = 0;
+        for (unsigned i = 0; i < 6; i++)
+            if (chosen >> i & 1)
+                some[count++] = nested[i];
+        given = some;
+        given_count = count;
+        fadrinzo *overlay = fadrinzo_new();
+        CHECK(overlay, "memory");
+        add_all(overlay, some, count);
+        for (int fill_rule = 0; fill_rule < FILLS; fill_rule++)
+            for (int relation = 0; relation < 4; relation++) {
+                int found = -1, wanted = relation_of_given(relation, fill_rule);
+                CHECK(fadrinzo_relation(overlay, relation, fill_rule, &found) == FADRINZO_OK, "relation %d", relation);
+                CHECK(found == wanted, "squares %x, relation %d, fill %d", chosen, relation, fill_rule);
+            }
+        fadrinzo_free(overlay);
+    }
+}
+
+/* A shape whose edges cross in the middle of a unit is named, the subject first, and nothing is written. */
+static void check_not_exact(void)
+{
+    static const int32_t bow[8] = {0, 0, 1, 1, 1, 0, 0, 1};
+    for (int shape = FADRINZO_CLIP; shape >= FADRINZO_SUBJECT; shape--)
+        for (int both = 0; both < 2; both++) {
+            fadrinzo *overlay = fadrinzo_new();
+            CHECK(overlay, "memory");
+            CHECK(fadrinzo_add_contour(overlay, shape, bow, 4) == FADRINZO_OK, "shape %d", shape);
+            CHECK(fadrinzo_add_contour(overlay, 1 - shape, both ? bow : squares[0].xy, 4) == FADRINZO_OK, "shape %d", shape);
+            int wanted = both || shape == FADRINZO_SUBJECT ? FADRINZO_SUBJECT_NOT_EXACT : FADRINZO_CLIP_NOT_EXACT;
+            for (int relation = 0; relation < 4; relation++) {
+                int found = -1;
+                CHECK((int)fadrinzo_relation(overlay, relation, 0, &found) == wanted && found == -1, "shape %d, relation %d", shape, relation);
+            }
+            fadrinzo_free(overlay);
+        }
+}
+
 /* The overlay has a result of one contour; a call that is refused leaves none. */
 static void check_drops(fadrinzo *overlay, fadrinzo_status found)
 {
@@ -330,6 +448,13 @@ static void check_codes(fadrinzo *overlay)
         CHECK(fadrinzo_locate(overlay, 0, fill_rule, 0, 0) == FADRINZO_LOCATION_BAD_ARGUMENT, "fill %d", fill_rule);
     }
     check_drops(overlay, fadrinzo_overlay_by_rules(overlay, NULL, 1, 1));
+    static const int wrong_relations[] = {-1, 4, 256, INT32_MAX};
+    int found = -1;
+    for (size_t i = 0; i < sizeof wrong_relations / sizeof *wrong_relations; i++)
+        CHECK(fadrinzo_relation(overlay, wrong_relations[i], 1, &found) == FADRINZO_BAD_ARGUMENT && found == -1, "relation %d", wrong_relations[i]);
+    CHECK(fadrinzo_relation(overlay, 0, 4, &found) == FADRINZO_BAD_ARGUMENT && found == -1, "fill 4");
+    CHECK(fadrinzo_relation(overlay, 0, 1, NULL) == FADRINZO_BAD_ARGUMENT, "null");
+    CHECK(fadrinzo_relation(overlay, 0, 1, &found) == FADRINZO_OK && found == 0 && fadrinzo_get(overlay).contours == 1, "a relation");
     static const int wrong_shapes[] = {-1, 2, 256, 257, INT32_MIN};
     for (size_t i = 0; i < sizeof wrong_shapes / sizeof *wrong_shapes; i++) {
         CHECK(fadrinzo_add_contour(overlay, wrong_shapes[i], squares[0].xy, 4) == FADRINZO_BAD_ARGUMENT, "shape %d", wrong_shapes[i]);
@@ -373,14 +498,17 @@ static void check_refusals(void)
     CHECK(fadrinzo_arranged_shapes(NULL, 0, 0) == FADRINZO_BAD_ARGUMENT, "null");
     CHECK(fadrinzo_clear(NULL) == FADRINZO_BAD_ARGUMENT, "null");
     CHECK(fadrinzo_locate(NULL, 0, 0, 0, 0) == FADRINZO_LOCATION_BAD_ARGUMENT, "null");
+    CHECK(fadrinzo_relation(NULL, 0, 0, rules) == FADRINZO_BAD_ARGUMENT, "null");
     CHECK(!fadrinzo_get(NULL).xy && !fadrinzo_get(NULL).contours, "null");
     fadrinzo_free(NULL);
 }
 
 static void check_texts(void)
 {
-    static const int codes[] = {FADRINZO_OK, FADRINZO_NO_MEMORY, FADRINZO_COUNT_OUT_OF_RANGE, FADRINZO_POINT_OUT_OF_RANGE, FADRINZO_BAD_ARGUMENT, 3, -1};
-    static const char *const parts[] = {"done", "memory", "2147483647", "-1073741824 to 1073741823", "null", "no such status", "no such status"};
+    static const int codes[] = {FADRINZO_OK, FADRINZO_NO_MEMORY, FADRINZO_COUNT_OUT_OF_RANGE, FADRINZO_POINT_OUT_OF_RANGE, FADRINZO_BAD_ARGUMENT,
+                                FADRINZO_SUBJECT_NOT_EXACT, FADRINZO_CLIP_NOT_EXACT, 3, -1};
+    static const char *const parts[] = {"done", "memory", "2147483647", "-1073741824 to 1073741823", "null",
+                                         "the subject cross", "the clip cross", "no such status", "no such status"};
     for (size_t i = 0; i < sizeof codes / sizeof *codes; i++)
         CHECK(strstr(fadrinzo_text(codes[i]), parts[i]), "status %d", codes[i]);
     CHECK(fadrinzo_version() == FADRINZO_VERSION, "version");
@@ -392,6 +520,9 @@ int main(void)
     check_input(triangles, 2, 0);
     check_reach_of_arrangements();
     check_middles();
+    check_polygons();
+    check_relations();
+    check_not_exact();
     check_refusals();
     check_texts();
     puts("all as the definitions say");

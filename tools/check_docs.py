@@ -45,7 +45,7 @@ NOT_SAID = {
 LENGTHS = {
     "README.md": 1_200,
     "CONTRIBUTING.md": 1_400,
-    "CHANGELOG.md": 1_700,
+    "CHANGELOG.md": 1_850,
     "docs/ARCHITECTURE.md": 1_750,
     "docs/DECISIONS.md": 3_080,
     "docs/DIFFERENCES.md": 1_700,
@@ -54,9 +54,9 @@ LENGTHS = {
     "docs/LIMITS.md": 1_200,
     "docs/MEASUREMENTS.md": 1_950,
     "docs/PROGRAMS.md": 1_800,
-    "docs/THEOREMS.md": 6_150,
+    "docs/THEOREMS.md": 6_250,
 }
-ALL_WORDS, LINES_OF_README = 23_400, 120
+ALL_WORDS, LINES_OF_README = 23_800, 120
 # where a path of a document may begin, and how it may end
 OF_A_CRATE = ("", "src/", "specs/", "proofs/", "proofs/laws/*/")
 PLACES = ("", "rust/", "rust/src/", "rust/tests/", "bench/", *(f"crates/*/{it}" for it in OF_A_CRATE))

@@ -7,15 +7,18 @@
 The library is found beside this file, where `pip install` puts it, else in the folder `c/out` of the repository, or where the variable
 FADRINZO_SO names its file.
 """
+import collections.abc
 import contextlib
 import ctypes
 import decimal
 import numbers
 import os
 import pathlib
+import threading
 import weakref
 
-__all__ = ["Arrangement", "MAX_COORD", "MIN_COORD", "OverlayError", "locate", "overlay", "overlay_by_rules"]
+__all__ = ["Arrangement", "MAX_COORD", "MIN_COORD", "NotExactError", "OverlayError", "covers", "interiors_meet", "is_within", "locate", "overlay",
+           "overlay_by_rules", "overlay_polygons", "same_region"]
 
 MIN_COORD, MAX_COORD = -(1 << 30), (1 << 30) - 1
 
@@ -23,12 +26,18 @@ RULES = {"subject": 0, "clip": 1, "intersect": 2, "union": 3, "difference": 4, "
 NOTHING = 16  # the table that keeps no point
 FILLS = {"evenodd": 0, "nonzero": 1, "positive": 2, "negative": 3}
 LOCATIONS = ["inside", "boundary", "outside"]
-VERSION = 1
+RELATIONS = {"interiors-meet": 0, "covers": 1, "is-within": 2, "same-region": 3}
+VERSION = 2
 NO_MEMORY = 1
+NOT_EXACT = (6, 7)  # of the subject, of the clip
 
 
 class OverlayError(Exception):
     """The library refused a call: contours wind too often around a point. Where there was no memory it is a MemoryError."""
+
+
+class NotExactError(OverlayError):
+    """Two edges of one shape cross at a point without integer coordinates, so that its relations to another are refused."""
 
 
 class _Result(ctypes.Structure):
@@ -64,12 +73,14 @@ def _load():
         "new": (handle, []),
         "free": (None, [handle]),
         "add_contour": (number, [handle, number, points, ctypes.c_size_t]),
+        "add_polygon": (number, [handle, number, points, ctypes.POINTER(ctypes.c_size_t), ctypes.c_size_t]),
         "overlay_shapes": (number, [handle, number, number]),
         "overlay_by_rules": (number, [handle, ctypes.POINTER(number), ctypes.c_size_t, number]),
         "arrange": (number, [handle, number]),
         "arranged": (number, [handle, number, number]),
         "arranged_shapes": (number, [handle, number, number]),
         "locate": (number, [handle, number, number, ctypes.c_int32, ctypes.c_int32]),
+        "relation": (number, [handle, number, number, ctypes.POINTER(number)]),
         "get": (_Result, [handle]),
     }
     for name, (result, arguments) in calls.items():
@@ -105,6 +116,20 @@ def _shown(value):
     except ValueError:
         text = f"a number of {value.bit_length()} bits"
     return text if len(text) <= 60 else f"{text[:60]}.."
+
+
+def _check_scale(scale):
+    """Raises where a scale is no finite number above 0."""
+    if scale is None:
+        return
+    if isinstance(scale, bool) or not isinstance(scale, numbers.Number):
+        raise TypeError(f"the scale {_shown(scale)} is no number")
+    try:
+        is_usable = 0 < scale < float("inf")
+    except (TypeError, ArithmeticError):
+        is_usable = False
+    if not is_usable:
+        raise ValueError(f"the scale {_shown(scale)} is no finite number above 0")
 
 
 def _scaled(value, scale, where):
@@ -169,7 +194,7 @@ def _numbers(contour, scale, where):
 def _check(status):
     """Raises what a status says."""
     if status:
-        error = MemoryError if status == NO_MEMORY else OverlayError
+        error = MemoryError if status == NO_MEMORY else NotExactError if status in NOT_EXACT else OverlayError
         raise error(_calls().fadrinzo_text(status).decode())
 
 
@@ -195,32 +220,107 @@ def _shapes(handle, scale):
     return [(contours[0], contours[1:]) for contours in _parts(_calls().fadrinzo_get(handle), scale)]
 
 
-def _load_contours(subject, clip, scale):
-    """An overlay of the library with these contours, which the caller frees."""
-    given = [[_numbers(contour, scale, f"contour {index} of the {name}") for index, contour in enumerate(contours)]
-             for name, contours in [("subject", subject), ("clip", clip)]]
-    calls = _calls()
-    handle = calls.fadrinzo_new()
+def _filled(add):
+    """A new overlay of the library, to which `add` adds contours. The caller frees it."""
+    handle = _calls().fadrinzo_new()
     if not handle:
         _check(NO_MEMORY)
     try:
-        for shape, contours in enumerate(given):
-            for numbers in contours:
-                _check(calls.fadrinzo_add_contour(handle, shape, (ctypes.c_int32 * len(numbers))(*numbers), len(numbers) // 2))
+        add(handle)
     except BaseException:
-        calls.fadrinzo_free(handle)
+        _calls().fadrinzo_free(handle)
         raise
     return handle
 
 
+def _load_contours(subject, clip, scale):
+    """An overlay of the library with these contours, which the caller frees."""
+    _check_scale(scale)
+    given = [[_numbers(contour, scale, f"contour {index} of the {name}") for index, contour in enumerate(contours)]
+             for name, contours in [("subject", subject), ("clip", clip)]]
+
+    def add(handle):
+        for shape, contours in enumerate(given):
+            for numbers in contours:
+                _check(_calls().fadrinzo_add_contour(handle, shape, (ctypes.c_int32 * len(numbers))(*numbers), len(numbers) // 2))
+
+    return _filled(add)
+
+
+def _load_polygons(subject, clip, scale):
+    """An overlay of the library with these polygons, which the caller frees."""
+    _check_scale(scale)
+    given = [[[_numbers(ring, scale, f"{where}, ring {index}") for index, ring in enumerate(rings)] for where, rings in _polygons(polygons, name)]
+             for name, polygons in [("subject", subject), ("clip", clip)]]
+
+    def add(handle):
+        for shape, polygons in enumerate(given):
+            for rings in polygons:
+                numbers = [number for ring in rings for number in ring]
+                lengths = [len(ring) // 2 for ring in rings]
+                _check(_calls().fadrinzo_add_polygon(handle, shape, (ctypes.c_int32 * len(numbers))(*numbers),
+                                                     (ctypes.c_size_t * len(lengths))(*lengths), len(lengths)))
+
+    return _filled(add)
+
+
+def _polygons(given, name):
+    """Of each polygon of a subject or a clip where it is, and its rings."""
+    geometry = _geometry(given)
+    if geometry is not None:
+        return _polygons_of(geometry, f"the {name}")
+    try:
+        items = list(given)
+    except TypeError:
+        raise TypeError(f"the {name}: {_shown(given)} is no list of polygons") from None
+    found = []
+    for index, item in enumerate(items):
+        where, geometry = f"polygon {index} of the {name}", _geometry(item)
+        found += [(where, _rings(item, where))] if geometry is None else _polygons_of(geometry, where)
+    return found
+
+
+def _rings(polygon, where):
+    """The rings of a polygon: of a pair of a boundary and its holes, or of a list of rings."""
+    try:
+        return [polygon[0], *polygon[1]] if isinstance(polygon, tuple) and len(polygon) == 2 else list(polygon)
+    except TypeError:
+        raise TypeError(f"{where}: {_shown(polygon)} is no pair of a boundary and its holes, and no list of rings") from None
+
+
+def _geometry(given):
+    """The mapping that an object of another library, or a mapping as of GeoJSON, is, or None."""
+    found = getattr(given, "__geo_interface__", given)
+    return found if isinstance(found, collections.abc.Mapping) else None
+
+
+def _polygons_of(geometry, where):
+    """Of each polygon of such a mapping where it is, and its rings."""
+    kind = geometry.get("type")
+    if kind == "Polygon":
+        return [(where, list(geometry["coordinates"]))]
+    if kind == "MultiPolygon":
+        return [(f"{where}, member {index}", list(rings)) for index, rings in enumerate(geometry["coordinates"])]
+    if kind == "Feature":
+        return [] if geometry["geometry"] is None else _polygons_of(_geometry(geometry["geometry"]), where)
+    members = {"GeometryCollection": "geometries", "FeatureCollection": "features"}
+    if kind in members:
+        return [found for index, member in enumerate(geometry[members[kind]]) for found in _polygons_of(_geometry(member), f"{where}, member {index}")]
+    raise TypeError(f"{where}: a geometry of type {_shown(kind)} has no polygons")
+
+
 @contextlib.contextmanager
-def _loaded(subject, clip, scale):
-    """An overlay of the library with these contours, freed at the end."""
-    handle = _load_contours(subject, clip, scale)
+def _owned(handle):
+    """An overlay of the library, freed at the end."""
     try:
         yield handle
     finally:
         _calls().fadrinzo_free(handle)
+
+
+def _loaded(subject, clip, scale):
+    """An overlay of the library with these contours, freed at the end."""
+    return _owned(_load_contours(subject, clip, scale))
 
 
 def overlay(subject, clip, rule, fill="nonzero", scale=None):
@@ -243,10 +343,31 @@ def overlay(subject, clip, rule, fill="nonzero", scale=None):
         return _shapes(handle, scale)
 
 
+def overlay_polygons(subject, clip, rule, fill="nonzero", scale=None):
+    """The overlay of two lists of polygons, as `overlay` returns it, whichever way their rings run.
+
+    A polygon is a pair of its outer boundary and the list of its holes, as results have them, or the list of its rings, the outer boundary
+    first. It may also be a geometry of another library that has `__geo_interface__`, as those of shapely, or a mapping as of GeoJSON, of
+    type Polygon, MultiPolygon, Feature or a collection of these; such a one may be the whole subject or clip. The outer boundary is turned
+    counterclockwise and each hole clockwise, so holes that lie apart in their boundary are holes. Other arguments and errors are those of
+    `overlay`.
+
+    >>> frame = [[(0, 0), (9, 0), (9, 9), (0, 9)], [(3, 3), (6, 3), (6, 6), (3, 6)]]
+    >>> window = {"type": "Polygon", "coordinates": [[(3, 3), (3, 6), (6, 6), (6, 3), (3, 3)]]}
+    >>> overlay_polygons([frame], window, "union")
+    [([(0, 9), (0, 0), (9, 0), (9, 9)], [])]
+    """
+    rule_code, fill_code = _code("rule", rule, RULES), _code("fill", fill, FILLS)
+    with _owned(_load_polygons(subject, clip, scale)) as handle:
+        _check(_calls().fadrinzo_overlay_shapes(handle, rule_code, fill_code))
+        return _shapes(handle, scale)
+
+
 class Arrangement:
     """Two lists of contours, split once under a fill rule, from which overlays by any rules come.
 
-    Arguments and errors are those of `overlay`. It is used by one thread at a time.
+    Arguments and errors are those of `overlay`. Threads may share one: a call waits for that of another thread. It holds memory of the
+    library, so it cannot be copied or pickled; the contours that it was made of can.
 
     >>> terraced = Arrangement([[(0, 0), (4, 0), (4, 4), (0, 4)]], [[(4, 0), (8, 0), (8, 4), (4, 4)]])
     >>> terraced.overlay("union")
@@ -260,14 +381,20 @@ class Arrangement:
     def __init__(self, subject, clip, fill="nonzero", scale=None):
         fill_code = _code("fill", fill, FILLS)
         self._handle, self._scale = _load_contours(subject, clip, scale), scale
+        self._lock = threading.Lock()
         weakref.finalize(self, _calls().fadrinzo_free, self._handle)
         _check(_calls().fadrinzo_arrange(self._handle, fill_code))
+
+    def __reduce__(self):
+        raise TypeError("an Arrangement cannot be copied or pickled; make another one of the same contours")
 
     def overlay(self, rule, collinear=True):
         """The overlay by a rule, as `overlay` returns it; if `collinear` is false, without the points at which a contour goes
         straight on."""
-        _check(_calls().fadrinzo_arranged_shapes(self._handle, _code("rule", rule, RULES), not collinear))
-        return _shapes(self._handle, self._scale)
+        code = _code("rule", rule, RULES)
+        with self._lock:
+            _check(_calls().fadrinzo_arranged_shapes(self._handle, code, not collinear))
+            return _shapes(self._handle, self._scale)
 
     @property
     def reach(self):
@@ -280,13 +407,16 @@ class Arrangement:
         1
         """
         # an overlay that keeps nothing has the reach of its arrangement
-        _check(_calls().fadrinzo_arranged(self._handle, NOTHING, 0))
-        return _calls().fadrinzo_get(self._handle).reach
+        with self._lock:
+            _check(_calls().fadrinzo_arranged(self._handle, NOTHING, 0))
+            return _calls().fadrinzo_get(self._handle).reach
 
     def contours(self, rule, collinear=True):
         """The same as contours that have it on their left: outer boundaries counterclockwise, holes clockwise."""
-        _check(_calls().fadrinzo_arranged(self._handle, _code("rule", rule, RULES), not collinear))
-        return list(_contours(_calls().fadrinzo_get(self._handle), self._scale))
+        code = _code("rule", rule, RULES)
+        with self._lock:
+            _check(_calls().fadrinzo_arranged(self._handle, code, not collinear))
+            return list(_contours(_calls().fadrinzo_get(self._handle), self._scale))
 
 
 def overlay_by_rules(subject, clip, rules, fill="nonzero", scale=None):
@@ -312,6 +442,59 @@ def locate(contours, point, fill="nonzero", scale=None):
     ['inside', 'boundary', 'outside']
     """
     fill_code = _code("fill", fill, FILLS)
+    _check_scale(scale)
     x, y = _numbers([point], scale, "the point")
     with _loaded(contours, [], scale) as handle:
         return LOCATIONS[_calls().fadrinzo_locate(handle, 0, fill_code, x, y)]
+
+
+def _relation(relation, subject, clip, fill, scale):
+    """Whether a relation holds."""
+    fill_code, holds = _code("fill", fill, FILLS), ctypes.c_int()
+    with _loaded(subject, clip, scale) as handle:
+        _check(_calls().fadrinzo_relation(handle, RELATIONS[relation], fill_code, ctypes.byref(holds)))
+        return bool(holds.value)
+
+
+def interiors_meet(subject, clip, fill="nonzero", scale=None):
+    """Whether some point is inside both of two lists of contours, exactly: points have any rational coordinates, and nothing is rounded.
+
+    Shapes that share parts of their boundaries alone do not meet. Arguments and errors are those of `overlay`. With a `scale` the relation
+    is that of the contours as they are multiplied and rounded. Raises NotExactError, which names the shape, where two edges of one shape
+    cross at a point without integer coordinates, as those of valid polygons and of results never do: the overlay of that shape by "subject"
+    is the same region but for rounding, and has no such crossing.
+
+    >>> square = [(0, 0), (4, 0), (4, 4), (0, 4)]
+    >>> interiors_meet([square], [[(3, 3), (6, 3), (6, 6), (3, 6)]])
+    True
+    >>> interiors_meet([square], [[(4, 4), (6, 4), (6, 6), (4, 6)]])
+    False
+    """
+    return _relation("interiors-meet", subject, clip, fill, scale)
+
+
+def covers(subject, clip, fill="nonzero", scale=None):
+    """Whether each point inside the clip is inside the subject. Arguments and errors are those of `interiors_meet`.
+
+    >>> covers([[(0, 0), (4, 0), (4, 4), (0, 4)]], [[(0, 0), (4, 0), (4, 3)]])
+    True
+    """
+    return _relation("covers", subject, clip, fill, scale)
+
+
+def is_within(subject, clip, fill="nonzero", scale=None):
+    """Whether each point inside the subject is inside the clip. Arguments and errors are those of `interiors_meet`.
+
+    >>> is_within([[(0, 0), (4, 0), (4, 4), (0, 4)]], [[(0, 0), (4, 0), (4, 3)]])
+    False
+    """
+    return _relation("is-within", subject, clip, fill, scale)
+
+
+def same_region(subject, clip, fill="nonzero", scale=None):
+    """Whether each point is inside both of two lists of contours, or inside neither. Arguments and errors are those of `interiors_meet`.
+
+    >>> same_region([[(0, 0), (4, 0), (4, 4), (0, 4)]], [[(4, 4), (4, 0), (0, 0), (0, 3), (0, 4)]])
+    True
+    """
+    return _relation("same-region", subject, clip, fill, scale)

@@ -18,6 +18,7 @@ FILLS = {
     "positive": lambda winds: winds > 0,
     "negative": lambda winds: winds < 0,
 }
+RELATIONS = (fadrinzo.interiors_meet, fadrinzo.covers, fadrinzo.is_within, fadrinzo.same_region)
 RULES = {
     "subject": lambda s, c: s,
     "clip": lambda s, c: c,
@@ -110,6 +111,34 @@ class Table(unittest.TestCase):
                 self.assertEqual(locate(doubled, (int(2 * x), int(2 * y)), fill=fill), wanted)
             self.assertEqual(locate(doubled, doubled[0][2], fill=fill), "boundary")
 
+    def test_relations(self):
+        # squares in one another, and one that reaches out of them: each unit square is inside or outside as a whole
+        nested = [rectangle(0, 0, 12, 12), rectangle(2, 2, 10, 10)[::-1], rectangle(10, 6, 20, 20), rectangle(4, 4, 6, 6)]
+        squares = [(x + 0.5, y + 0.5) for x in range(20) for y in range(20)]
+        choices = [list(it) for count in range(3) for it in itertools.combinations(nested, count)]
+        for subject, clip, (fill, counts) in itertools.product(choices, choices, FILLS.items()):
+            kinds = {(counts(winding(subject, x, y)), counts(winding(clip, x, y))) for x, y in squares}
+            wanted = ((True, True) in kinds, (False, True) not in kinds, (True, False) not in kinds, kinds <= {(True, True), (False, False)})
+            found = tuple(call(subject, clip, fill=fill) for call in RELATIONS)
+            self.assertEqual(found, wanted, (subject, clip, fill))
+
+    def test_relations_without_rounding(self):
+        # less than a tenth in common, less than a tenth apart, and two that touch
+        below = [[(0, 0), (10, 0), (10, 1)]]
+        for clip, wanted in [([(0, 0), (11, 1), (0, 1)], True), ([(0, 0), (9, 1), (0, 1)], False), ([(0, 0), (10, 1), (0, 1)], False)]:
+            self.assertEqual(fadrinzo.interiors_meet(below, [clip]), wanted)
+        self.assertTrue(fadrinzo.interiors_meet(below, [[(0, 0), (10, 0.9), (0, 1)]], scale=10))
+
+    def test_shapes_that_cross_themselves_are_named(self):
+        bow = [[(0, 0), (1, 1), (1, 0), (0, 1)]]
+        for subject, clip, named in [(bow, SUBJECT, "subject"), (SUBJECT, bow, "clip"), (bow, bow, "subject")]:
+            for call in RELATIONS:
+                with self.assertRaises(fadrinzo.NotExactError) as caught:
+                    call(subject, clip, fill="evenodd")
+                self.assertIn(f"two edges of the {named} cross", str(caught.exception))
+            alone = [rings(overlay(it, [], "subject", fill="evenodd")) for it in (subject, clip)]
+            self.assertEqual(fadrinzo.same_region(*alone), alone[0] == alone[1])
+
     def test_coordinates_are_rounded_to_the_nearest(self):
         # times ten: 1.6, -1.6, and numbers of other types
         for value, wanted in [(0.16, 2), (-0.16, -2), (0.24, 2), (fractions.Fraction(16, 100), 2), (decimal.Decimal("-0.16"), -2)]:
@@ -189,7 +218,8 @@ class Refusals(unittest.TestCase):
                 self.assertIn("is no rule: one of subject, clip, intersect", str(caught.exception))
         for wrong in ("", "even-odd", None, 3):
             for call in (*(lambda fill, it=it: it(SUBJECT, CLIP, "union", fill=fill) for it in (overlay,)), lambda fill: Arrangement(SUBJECT, CLIP, fill=fill),
-                         lambda fill: locate(SUBJECT, (0, 0), fill=fill), lambda fill: overlay_by_rules(SUBJECT, CLIP, [], fill=fill)):
+                         lambda fill: locate(SUBJECT, (0, 0), fill=fill), lambda fill: overlay_by_rules(SUBJECT, CLIP, [], fill=fill),
+                         *(lambda fill, it=it: it(SUBJECT, CLIP, fill=fill) for it in RELATIONS)):
                 with self.assertRaises(ValueError) as caught:
                     call(wrong)
                 self.assertIn("is no fill: one of evenodd, nonzero", str(caught.exception))

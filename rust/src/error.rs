@@ -92,6 +92,8 @@ pub enum Error {
         /// Its first coordinate out of range.
         fault: RangeFault,
     },
+    /// Two edges of this shape cross at a point without integer coordinates, so that its relations are refused.
+    NotExact(ShapeType),
     /// The segment at this index may not be split. It is the first such one.
     Segment {
         /// Its index in the given list.
@@ -147,6 +149,10 @@ impl fmt::Display for Error {
                 write!(f, "contour {contour} of the {shape_type}, point {point}: {fault}")
             }
             Error::Line { line, point, fault } => write!(f, "line {line}, point {point}: {fault}"),
+            Error::NotExact(shape_type) => write!(
+                f,
+                "two edges of the {shape_type} cross at a point without integer coordinates; take its overlay by itself"
+            ),
             Error::Segment { index, fault } => write!(f, "segment {index}: {fault}"),
         }
     }

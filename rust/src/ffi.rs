@@ -117,6 +117,7 @@ extern "C" {
     fn overlay_c_arranged_contours(handle: &mut Handle, rule: u8, corners: bool) -> u8;
     fn overlay_c_arranged_shapes(handle: &mut Handle, rule: u8, corners: bool) -> u8;
     fn overlay_c_locate(handle: &mut Handle, point: &IntPoint, shape: u8, fill: u8) -> u8;
+    fn overlay_c_relation(handle: &mut Handle, settings: &Settings, code: u8, holds: &mut bool) -> u8;
     fn overlay_c_report(handle: &mut Handle) -> Report;
     fn overlay_c_arranged_report(handle: &mut Handle) -> Report;
     fn overlay_c_clear(handle: &mut Handle);
@@ -294,6 +295,16 @@ impl Engine {
     pub fn locate(&mut self, point: IntPoint, shape: u8, fill: u8) -> u8 {
         // SAFETY: the handle is full. Nothing is required of points and codes.
         unsafe { overlay_c_locate(&mut self.handle, &point, shape, fill) }
+    }
+
+    /// Whether a relation holds between the subject and the clip, by its code, or the status of a refusal.
+    pub fn relation(&mut self, settings: &Settings, code: u8) -> Result<bool, u8> {
+        let mut holds = false;
+        // SAFETY: the handle is full. Nothing is required of codes.
+        match unsafe { overlay_c_relation(&mut self.handle, settings, code, &mut holds) } {
+            0 => Ok(holds),
+            status => Err(status),
+        }
     }
 
     /// What the last overlay of contours reports of its run, if it was not refused.

@@ -2,7 +2,8 @@
 
 use crate::memory::{collect, collect_all, push, reserve};
 use crate::{
-    Axis, Error, Fault, FillRule, IntContour, IntPoint, Overlay, OverlayRule, ShapeType, MAX_COORD, MIN_COORD,
+    Axis, Error, Fault, FillRule, IntContour, IntPoint, IntShape, Overlay, OverlayRule, PointLocation, Rounding,
+    ShapeType, MAX_COORD, MIN_COORD,
 };
 use std::fmt;
 
@@ -183,9 +184,28 @@ impl FloatPointAdapter {
         })
     }
 
-    /// The points of a whole contour.
-    fn contour_to_float(&self, contour: &IntContour) -> Result<FloatContour, Fault> {
+    /// The points of a whole contour, as [`FloatPointAdapter::to_float`] returns each. Returns `Fault::Memory` where there is none.
+    ///
+    /// ```
+    /// use fadrinzo::FloatPointAdapter;
+    ///
+    /// let adapter = FloatPointAdapter::with_scale([0.0; 2], [8.0; 2], 10.0)?;
+    /// let corner = adapter.to_int([0.0, 0.0]).unwrap();
+    /// assert_eq!(adapter.contour_to_float(&[corner, adapter.to_int([8.0, 0.26]).unwrap()])?, [[0.0, 0.0], [8.0, 0.3]]);
+    /// # Ok::<(), fadrinzo::FloatError>(())
+    /// ```
+    pub fn contour_to_float(&self, contour: &[IntPoint]) -> Result<FloatContour, Fault> {
         collect(contour.iter().map(|&point| self.to_float(point)))
+    }
+
+    /// The points of whole contours, where there is memory for them.
+    fn contours_to_float(&self, contours: &[IntContour]) -> Result<Vec<FloatContour>, Fault> {
+        collect_all(contours.iter().map(|contour| self.contour_to_float(contour)))
+    }
+
+    /// The points of whole shapes, where there is memory for them.
+    fn shapes_to_float(&self, shapes: &[IntShape]) -> Result<Vec<FloatShape>, Fault> {
+        collect_all(shapes.iter().map(|shape| self.contours_to_float(shape)))
     }
 }
 
@@ -259,7 +279,7 @@ fn greatest_scale(center: FloatPoint, least: FloatPoint, greatest: FloatPoint) -
 /// ```
 #[derive(Debug)]
 pub struct FloatOverlay {
-    overlay: Overlay,
+    pub(crate) overlay: Overlay,
     adapter: FloatPointAdapter,
     contour: IntContour,
     contour_counts: [usize; 2],
@@ -334,15 +354,46 @@ impl FloatOverlay {
         Ok(())
     }
 
+    /// Adds a shape, as `overlay_shapes` returns one: its first contour is the outer boundary, and the others are its holes, which
+    /// may run either way. A shape of no contours adds nothing.
+    ///
+    /// ```
+    /// use fadrinzo::{FillRule, FloatOverlay, FloatPointAdapter, OverlayRule, ShapeType};
+    ///
+    /// let square = |low: f64, high: f64| vec![[low, low], [high, low], [high, high], [low, high]];
+    /// let mut overlay = FloatOverlay::with_adapter(FloatPointAdapter::new([0.0; 2], [1.0; 2])?)?;
+    /// overlay.add_shape(&[square(0.0, 1.0), square(0.25, 0.75)], ShapeType::Subject)?;
+    /// assert_eq!(overlay.overlay_shapes(OverlayRule::Subject, FillRule::NonZero)?[0].len(), 2);
+    /// # Ok::<(), fadrinzo::FloatError>(())
+    /// ```
+    pub fn add_shape<C: AsRef<[FloatPoint]>>(&mut self, shape: &[C], shape_type: ShapeType) -> Result<(), FloatError> {
+        match shape.split_first() {
+            Some((outer, holes)) => self.add_polygon(outer, holes, shape_type),
+            None => Ok(()),
+        }
+    }
+
     /// The adapter.
     pub fn adapter(&self) -> &FloatPointAdapter {
         &self.adapter
     }
 
+    /// The same overlay, with a rounding for the contours that it overlays from now on.
+    pub fn with_rounding(mut self, rounding: Rounding) -> FloatOverlay {
+        self.overlay = self.overlay.with_rounding(rounding);
+        self
+    }
+
+    /// Drops the contours that were added. The adapter stays.
+    pub fn clear(&mut self) {
+        self.overlay.clear();
+        self.contour_counts = [0; 2];
+    }
+
     /// The overlay as contours: outer boundaries run counterclockwise, and holes clockwise.
     pub fn overlay(&mut self, overlay_rule: OverlayRule, fill_rule: FillRule) -> Result<Vec<FloatContour>, FloatError> {
         let contours = self.overlay.overlay(overlay_rule, fill_rule)?;
-        Ok(collect_all(contours.iter().map(|contour| self.adapter.contour_to_float(contour)))?)
+        Ok(self.adapter.contours_to_float(&contours)?)
     }
 
     /// The overlay as shapes: each an outer boundary, followed by its holes.
@@ -352,9 +403,72 @@ impl FloatOverlay {
         fill_rule: FillRule,
     ) -> Result<Vec<FloatShape>, FloatError> {
         let shapes = self.overlay.overlay_shapes(overlay_rule, fill_rule)?;
-        let shape =
-            |contours: &Vec<IntContour>| collect_all(contours.iter().map(|it| self.adapter.contour_to_float(it)));
-        Ok(collect_all(shapes.iter().map(shape))?)
+        Ok(self.adapter.shapes_to_float(&shapes)?)
+    }
+
+    /// The overlays by several rules, each as `overlay` returns it, in the order of the rules. The contours are split once.
+    ///
+    /// ```
+    /// use fadrinzo::{area, FillRule, FloatOverlay, OverlayRule};
+    ///
+    /// let square = |low: f64, high: f64| [[low, low], [high, low], [high, high], [low, high]];
+    /// let mut overlay = FloatOverlay::with_contours(&[square(0.0, 0.5)], &[square(0.25, 0.75)])?;
+    /// let found = overlay.overlay_by_rules(&[OverlayRule::Union, OverlayRule::Intersect], FillRule::NonZero)?;
+    /// assert_eq!(found.iter().map(|contours| area(&contours[0])).collect::<Vec<_>>(), [0.4375, 0.0625]);
+    /// # Ok::<(), fadrinzo::FloatError>(())
+    /// ```
+    pub fn overlay_by_rules(
+        &mut self,
+        overlay_rules: &[OverlayRule],
+        fill_rule: FillRule,
+    ) -> Result<Vec<Vec<FloatContour>>, FloatError> {
+        let overlays = self.overlay.overlay_by_rules(overlay_rules, fill_rule)?;
+        Ok(self.adapter.shapes_to_float(&overlays)?)
+    }
+
+    /// The overlay as shapes without the points at which a contour goes straight on.
+    ///
+    /// ```
+    /// use fadrinzo::{FillRule, FloatOverlay, OverlayRule};
+    ///
+    /// let square = |left: f64| [[left, 0.0], [left + 0.5, 0.0], [left + 0.5, 0.5], [left, 0.5]];
+    /// let mut overlay = FloatOverlay::with_contours(&[square(0.0)], &[square(0.5)])?;
+    /// assert_eq!(overlay.overlay_shapes(OverlayRule::Union, FillRule::NonZero)?[0][0].len(), 6);
+    /// assert_eq!(overlay.shapes_without_collinear(OverlayRule::Union, FillRule::NonZero)?[0][0].len(), 4);
+    /// # Ok::<(), fadrinzo::FloatError>(())
+    /// ```
+    pub fn shapes_without_collinear(
+        &mut self,
+        overlay_rule: OverlayRule,
+        fill_rule: FillRule,
+    ) -> Result<Vec<FloatShape>, FloatError> {
+        let shapes = self.overlay.arrange(fill_rule)?.shapes_without_collinear(overlay_rule)?;
+        Ok(self.adapter.shapes_to_float(&shapes)?)
+    }
+
+    /// Where a point lies with respect to the contours of a shape that were added, as [`Overlay::locate_point`] returns it: the
+    /// point and the contours are those that the adapter rounded. A point outside of the bounds lies outside.
+    ///
+    /// ```
+    /// use fadrinzo::{FillRule, FloatOverlay, PointLocation, ShapeType};
+    ///
+    /// let mut overlay = FloatOverlay::with_contours(&[[[0.0, 0.0], [0.5, 0.0], [0.5, 0.5], [0.0, 0.5]]], &[])?;
+    /// let mut locate = |x, y| overlay.locate_point(ShapeType::Subject, FillRule::NonZero, [x, y]);
+    /// assert_eq!(locate(0.25, 0.25), PointLocation::Inside);
+    /// assert_eq!(locate(0.5, 0.25), PointLocation::OnBoundary);
+    /// assert_eq!(locate(f64::INFINITY, 0.25), PointLocation::Outside);
+    /// # Ok::<(), fadrinzo::FloatError>(())
+    /// ```
+    pub fn locate_point(&mut self, shape_type: ShapeType, fill_rule: FillRule, point: FloatPoint) -> PointLocation {
+        match self.adapter.to_int(point) {
+            Some(point) => self.overlay.locate_point(shape_type, fill_rule, point),
+            None => PointLocation::Outside,
+        }
+    }
+
+    /// How many passes the last overlay made that was not refused; 0 at first.
+    pub fn passes(&self) -> u128 {
+        self.overlay.passes()
     }
 
     /// How far the last overlay moved edges at most, in `x` and in `y`: what the rounding of given points moved them, what the

@@ -23,6 +23,7 @@ mod memory;
 mod names;
 mod overlay;
 mod point;
+mod relations;
 mod rules;
 mod segment;
 mod solver;

@@ -239,6 +239,50 @@ impl Overlay {
         Ok(())
     }
 
+    /// Adds a shape, as `overlay_shapes` returns one or an array of rings: its first contour is the outer boundary, and the
+    /// others are its holes, which may run either way, as for [`Overlay::add_polygon`]. A shape of no contours adds nothing.
+    ///
+    /// ```
+    /// use fadrinzo::{square, FillRule, Overlay, OverlayRule, ShapeType};
+    ///
+    /// let mut ring = Overlay::with_contours(&[square(0, 9)], &[square(3, 6)])?;
+    /// let mut overlay = Overlay::new()?;
+    /// for shape in ring.overlay_shapes(OverlayRule::Difference, FillRule::NonZero)? {
+    ///     overlay.add_shape(&shape, ShapeType::Subject)?;
+    /// }
+    /// overlay.add_shape(&[square(3, 6)], ShapeType::Clip)?;
+    /// assert_eq!(overlay.overlay_shapes(OverlayRule::Union, FillRule::NonZero)?, [[square(0, 9)]]);
+    /// # Ok::<(), fadrinzo::Error>(())
+    /// ```
+    pub fn add_shape<C: AsRef<[IntPoint]>>(&mut self, shape: &[C], shape_type: ShapeType) -> Result<(), Error> {
+        match shape.split_first() {
+            Some((outer, holes)) => self.add_polygon(outer, holes, shape_type),
+            None => Ok(()),
+        }
+    }
+
+    /// An overlay of these shapes of a subject and of a clip, each added as `add_shape` adds it.
+    ///
+    /// ```
+    /// use fadrinzo::{square, FillRule, Overlay, OverlayRule};
+    ///
+    /// let mut cut = Overlay::with_contours(&[square(0, 9)], &[square(3, 6)])?;
+    /// let ring = cut.overlay_shapes(OverlayRule::Difference, FillRule::NonZero)?;
+    /// let inner = cut.overlay_shapes(OverlayRule::Intersect, FillRule::NonZero)?;
+    /// let mut overlay = Overlay::with_shapes(&ring, &inner)?;
+    /// assert!(!overlay.interiors_meet(FillRule::NonZero)?);
+    /// # Ok::<(), fadrinzo::Error>(())
+    /// ```
+    pub fn with_shapes<S: AsRef<[C]>, C: AsRef<[IntPoint]>>(subject: &[S], clip: &[S]) -> Result<Overlay, Error> {
+        let mut overlay = Overlay::new()?;
+        for (shapes, shape_type) in [(subject, ShapeType::Subject), (clip, ShapeType::Clip)] {
+            for shape in shapes {
+                overlay.add_shape(shape.as_ref(), shape_type)?;
+            }
+        }
+        Ok(overlay)
+    }
+
     /// The overlay of the contours that were added, as contours that have it on their left, by the
     /// solver `AUTO`: outer boundaries run counterclockwise, and holes clockwise. So they wind once
     /// around each point where the rule holds, and not at all around the others, but for points

@@ -1,0 +1,256 @@
+//! Relations of a million random pairs of shapes, against their definition in exact fractions.
+//!
+//! The plane is cut into slabs at each end and each crossing of two edges. Within a slab no two edges meet, so each cell between
+//! two neighbors is inside or outside of a shape as a whole, and each rational point on no edge lies in a cell or between two alike.
+
+mod common;
+
+use common::Random;
+use fadrinzo::{Error, FillRule, IntPoint, Overlay, ShapeType};
+use std::cmp::Ordering;
+
+type Contours = Vec<Vec<IntPoint>>;
+
+const FILLS: [FillRule; 4] = [FillRule::EvenOdd, FillRule::NonZero, FillRule::Positive, FillRule::Negative];
+
+/// A fraction with a bottom above 0.
+#[derive(Clone, Copy)]
+struct Fraction {
+    top: i128,
+    bottom: i128,
+}
+
+impl Fraction {
+    fn new(top: i128, bottom: i128) -> Fraction {
+        Fraction { top: top * bottom.signum(), bottom: bottom.abs() }
+    }
+
+    fn whole(number: i32) -> Fraction {
+        Fraction { top: number.into(), bottom: 1 }
+    }
+
+    fn middle(self, other: Fraction) -> Fraction {
+        Fraction::new(self.top * other.bottom + other.top * self.bottom, 2 * self.bottom * other.bottom)
+    }
+
+    fn order(&self, other: &Fraction) -> Ordering {
+        (self.top * other.bottom).cmp(&(other.top * self.bottom))
+    }
+}
+
+/// A step that is not upright, from left to right, and how often it counts for each shape.
+struct Edge {
+    a: IntPoint,
+    b: IntPoint,
+    counts: [i32; 2],
+}
+
+impl Edge {
+    /// The height of its line at a place, times the product of its width and the bottom of the place.
+    fn height(&self, x: Fraction) -> Fraction {
+        let (width, rise) = (difference(self.b.x, self.a.x), difference(self.b.y, self.a.y));
+        let run = x.top - i128::from(self.a.x) * x.bottom;
+        Fraction::new(i128::from(self.a.y) * width * x.bottom + rise * run, width * x.bottom)
+    }
+
+    fn spans(&self, x: Fraction) -> bool {
+        Fraction::whole(self.a.x).order(&x).is_lt() && x.order(&Fraction::whole(self.b.x)).is_lt()
+    }
+}
+
+fn difference(p: i32, q: i32) -> i128 {
+    i128::from(p) - i128::from(q)
+}
+
+fn steps(contours: &Contours) -> Vec<[IntPoint; 2]> {
+    let steps = contours.iter().flat_map(|it| it.iter().zip(it.iter().cycle().skip(1)));
+    steps.map(|(&p, &q)| [p, q]).filter(|[p, q]| p != q).collect()
+}
+
+/// The abscissas of all ends, and of the points at which two steps cross, in order.
+fn slabs(steps: &[[IntPoint; 2]]) -> Vec<Fraction> {
+    let mut found: Vec<Fraction> = steps.iter().flatten().map(|point| Fraction::whole(point.x)).collect();
+    for (index, [a, b]) in steps.iter().enumerate() {
+        for [c, d] in &steps[..index] {
+            let (ux, uy) = (difference(b.x, a.x), difference(b.y, a.y));
+            let (vx, vy) = (difference(d.x, c.x), difference(d.y, c.y));
+            let (wx, wy) = (difference(c.x, a.x), difference(c.y, a.y));
+            let cross = ux * vy - uy * vx;
+            let (along, other) = ((wx * vy - wy * vx) * cross.signum(), (wx * uy - wy * ux) * cross.signum());
+            if cross != 0 && (0..=cross.abs()).contains(&along) && (0..=cross.abs()).contains(&other) {
+                found.push(Fraction::new(i128::from(a.x) * cross.abs() + ux * along, cross.abs()));
+            }
+        }
+    }
+    found.sort_unstable_by(Fraction::order);
+    found.dedup_by(|x, y| x.order(y).is_eq());
+    found
+}
+
+fn is_inside(fill_rule: FillRule, winding: i32) -> bool {
+    match fill_rule {
+        FillRule::EvenOdd => winding % 2 != 0,
+        FillRule::NonZero => winding != 0,
+        FillRule::Positive => winding > 0,
+        FillRule::Negative => winding < 0,
+    }
+}
+
+/// Whether some cell is in both shapes, in the subject alone, and in the clip alone.
+fn cells(shapes: [&Contours; 2], fill_rule: FillRule) -> [bool; 3] {
+    let all = shapes.map(steps);
+    let mut edges = Vec::new();
+    for (shape, steps) in all.iter().enumerate() {
+        for &[p, q] in steps.iter().filter(|[p, q]| p.x != q.x) {
+            let mut counts = [0; 2];
+            counts[shape] = if p.x < q.x { 1 } else { -1 };
+            let (a, b) = if p.x < q.x { (p, q) } else { (q, p) };
+            edges.push(Edge { a, b, counts });
+        }
+    }
+    let mut found = [false; 3];
+    for pair in slabs(&all.concat()).windows(2) {
+        let x = pair[0].middle(pair[1]);
+        let mut row: Vec<_> = edges.iter().filter(|edge| edge.spans(x)).map(|edge| (edge.height(x), edge)).collect();
+        row.sort_by(|one, other| one.0.order(&other.0));
+        let mut winding = [0; 2];
+        for (index, (height, edge)) in row.iter().enumerate() {
+            winding = [winding[0] + edge.counts[0], winding[1] + edge.counts[1]];
+            // edges at one height are on one line: nothing lies between them
+            if row.get(index + 1).is_none_or(|(above, _)| height.order(above).is_lt()) {
+                let [subject, clip] = winding.map(|winding| is_inside(fill_rule, winding));
+                let kinds = [subject && clip, subject && !clip, clip && !subject];
+                found = [0, 1, 2].map(|kind| found[kind] || kinds[kind]);
+            }
+        }
+    }
+    found
+}
+
+fn point(random: &mut Random, size: i32) -> IntPoint {
+    IntPoint::new(random.below(size + 1), random.below(size + 1))
+}
+
+/// A square of steps along the axes and diagonals, so that many crossings have integer coordinates.
+fn steps_along_axes(random: &mut Random, size: i32) -> Vec<IntPoint> {
+    const WAYS: [(i32, i32); 8] = [(1, 0), (1, 1), (0, 1), (-1, 1), (-1, 0), (-1, -1), (0, -1), (1, -1)];
+    let mut at = point(random, size);
+    let mut contour = vec![at];
+    for _ in 0..2 + random.below(4) {
+        let (length, (x, y)) = (2 + 2 * random.below(size / 2), WAYS[random.below(8) as usize]);
+        at = IntPoint::new(at.x + length * x, at.y + length * y);
+        contour.push(at);
+    }
+    contour
+}
+
+fn contour(random: &mut Random, kind: i32, size: i32) -> Vec<IntPoint> {
+    match kind {
+        0 => (0..3 + random.below(4)).map(|_| point(random, size)).collect(),
+        1 => {
+            let (p, q) = (point(random, size), point(random, size));
+            let mut corners = vec![p, IntPoint::new(q.x, p.y), q, IntPoint::new(p.x, q.y)];
+            if random.below(2) == 0 {
+                corners.reverse();
+            }
+            corners
+        }
+        2 => {
+            // long and thin, near a line
+            let (long, mut near) =
+                (20 * size, |x: i32| IntPoint::new(x + random.below(5) - 2, x / 2 + random.below(5) - 2));
+            vec![near(0), near(long), near(long / 2)]
+        }
+        3 => steps_along_axes(random, size),
+        _ => (0..3).map(|_| point(random, size)).collect(),
+    }
+}
+
+fn shape(random: &mut Random, kind: i32, size: i32) -> Contours {
+    let count = 1 + random.below(3).min(random.below(3));
+    (0..count).map(|_| contour(random, kind, size)).collect()
+}
+
+/// The second one is new, or made of the first.
+fn pair(random: &mut Random) -> [Contours; 2] {
+    let (size, kind) = (3 + random.below(10), random.below(5));
+    let first = shape(random, kind, size);
+    let second = match random.below(6) {
+        0 => {
+            let (x, y) = (random.below(3) - 1, random.below(3) - 1);
+            first.iter().map(|it| it.iter().map(|p| IntPoint::new(p.x + x, p.y + y)).collect()).collect()
+        }
+        1 => {
+            let mut all = first.clone();
+            let index = random.below(all.len() as i32) as usize;
+            let at = random.below(all[index].len() as i32) as usize;
+            all[index][at] = point(random, size);
+            all
+        }
+        2 => {
+            let it = &first[random.below(first.len() as i32) as usize];
+            let at = random.below(it.len() as i32) as usize;
+            let mut corners = vec![it[at], it[(at + 1) % it.len()], point(random, size)];
+            if random.below(2) == 0 {
+                corners.reverse();
+            }
+            vec![corners]
+        }
+        3 => Vec::new(),
+        _ => {
+            let kind = random.below(5);
+            shape(random, kind, size)
+        }
+    };
+    if random.below(2) == 0 {
+        [first, second]
+    } else {
+        [second, first]
+    }
+}
+
+/// Compares so many pairs. Returns of how many no relation was refused, and how often each held.
+fn compare(seed: u64, pairs: usize) -> (usize, [usize; 4]) {
+    let mut random = Random(seed.wrapping_mul(0x9e37_79b9_7f4a_7c15));
+    let mut overlay = Overlay::new().unwrap();
+    let (mut decided, mut held) = (0, [0; 4]);
+    for _ in 0..pairs {
+        let [subject, clip] = pair(&mut random);
+        let fill_rule = FILLS[random.below(4) as usize];
+        overlay.clear();
+        for (contours, shape_type) in [(&subject, ShapeType::Subject), (&clip, ShapeType::Clip)] {
+            for contour in contours {
+                overlay.add_contour(contour, shape_type).unwrap();
+            }
+        }
+        let found = [Overlay::interiors_meet, Overlay::covers, Overlay::is_within, Overlay::same_region]
+            .map(|relation| relation(&mut overlay, fill_rule));
+        if let Err(error) = found[0] {
+            assert!(matches!(error, Error::NotExact(_)), "{error}");
+            assert!(found.iter().all(|it| *it == found[0]), "{subject:?} {clip:?} {fill_rule}");
+            continue;
+        }
+        let [in_both, in_subject_alone, in_clip_alone] = cells([&subject, &clip], fill_rule);
+        let wanted = [in_both, !in_clip_alone, !in_subject_alone, !in_clip_alone && !in_subject_alone];
+        assert_eq!(found, wanted.map(Ok), "{subject:?} {clip:?} {fill_rule}");
+        decided += 1;
+        held = [0, 1, 2, 3].map(|relation| held[relation] + usize::from(wanted[relation]));
+    }
+    (decided, held)
+}
+
+#[test]
+fn a_million_pairs() {
+    let threads = 8;
+    let found: Vec<_> = std::thread::scope(|scope| {
+        let all: Vec<_> =
+            (0..threads).map(|seed| scope.spawn(move || compare(seed, 1_000_000 / threads as usize))).collect();
+        all.into_iter().map(|it| it.join().unwrap()).collect()
+    });
+    let decided: usize = found.iter().map(|(decided, _)| decided).sum();
+    assert!(decided > 400_000, "{decided}");
+    for relation in 0..4 {
+        let held: usize = found.iter().map(|(_, held)| held[relation]).sum();
+        assert!(held > 10_000 && held < decided - 10_000, "{relation}: {held} of {decided}");
+    }
+}
