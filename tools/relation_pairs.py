@@ -32,6 +32,7 @@ use overlay_base::overlay_core::solver::Solver;
 use overlay_base::segm::shape_type::ShapeType;
 use overlay_contours::contour::IntContour;
 use overlay_geometry::geom::point::IntPoint;
+use overlay_relations::contacts::{is_disjoint, touches};
 use overlay_relations::fault::RelationFault;
 use overlay_relations::predicates::{covers, interiors_meet, is_within, same_region};
 use std::alloc::{AllocError, Global};
@@ -78,7 +79,9 @@ fn main(rt: HostRuntime) -> io::Result<()> {
         let covering = letter(covers(rt.alloc(), &subject, &clip, &Solver::AUTO, rule));
         let within = letter(is_within(rt.alloc(), &subject, &clip, &Solver::AUTO, rule));
         let same = letter(same_region(rt.alloc(), &subject, &clip, &Solver::AUTO, rule));
-        println!(rt; "{meet}{covering}{within}{same}")?;
+        let touch = letter(touches(rt.alloc(), &subject, &clip, &Solver::AUTO, rule));
+        let apart = letter(is_disjoint(rt.alloc(), &subject, &clip, &Solver::AUTO, rule));
+        println!(rt; "{meet}{covering}{within}{same}{touch}{apart}")?;
     }
     Ok(())
 }
@@ -142,14 +145,62 @@ def kinds(rule, subject, clip):
     return found
 
 
+def winding(shape, point):
+    """Returns how often contours wind around a point that is on no edge: the edges below it, by their directions."""
+    count = 0
+    for p, q in edges(shape):
+        a, b = min(p, q), max(p, q)
+        if a[0] <= point[0] < b[0] and turn(a, b, point) > 0:
+            count += 1 if p < q else -1
+    return count
+
+
+def on_line(pair, point):
+    """Returns whether a point is on a pair, ends included."""
+    (a, b), (c, d) = pair
+    return turn(*pair, point) == 0 and min(a, c) <= point[0] <= max(a, c) and min(b, d) <= point[1] <= max(b, d)
+
+
+def borders(rule, shape):
+    """Returns the parts of edges that have the shape on one side alone: cut at all ends on them and crossings, and told by points close by."""
+    pairs = {(min(it), max(it)) for it in edges(shape)}
+    found = []
+    for pair in pairs:
+        stops = {point for other in pairs for point in (*other, crossing(pair, other)) if point and on_line(pair, point)}
+        for p, q in itertools.pairwise(sorted(stops)):
+            if RULES[rule](winding(shape, beside(pairs, p, q, 1))) != RULES[rule](winding(shape, beside(pairs, p, q, -1))):
+                found.append((p, q))
+    return found
+
+
+def beside(pairs, p, q, way):
+    """Returns a point at the middle of a part, moved to a side of it and past no line of a pair that does not contain the part."""
+    middle = tuple(fractions.Fraction(p[axis] + q[axis]) / 2 for axis in (0, 1))
+    across = (way * (p[1] - q[1]), way * (q[0] - p[0]))
+    step = fractions.Fraction(1)
+    for a, b in pairs:
+        here, slope = turn(a, b, middle), (b[0] - a[0]) * across[1] - (b[1] - a[1]) * across[0]
+        if here and slope:
+            step = min(step, abs(here / slope) / 2)
+    return tuple(middle[axis] + step * across[axis] for axis in (0, 1))
+
+
+def share_point(first, second):
+    """Returns whether some part of one list has a point of a part of the other."""
+    return any(
+        crossing(s, t) or any(on_line(s, it) for it in t) or any(on_line(t, it) for it in s) for s, t in itertools.product(first, second)
+    )
+
+
 def wanted(rule, subject, clip):
     """Returns what the program has to print."""
     for letter, shape in (("S", subject), ("C", clip)):
         if has_inexact_crossing(shape):
-            return 4 * letter
+            return 6 * letter
     found = kinds(rule, subject, clip)
-    covered, within = (False, True) not in found, (True, False) not in found
-    return "".join("01"[it] for it in ((True, True) in found, covered, within, covered and within))
+    meet, covered, within = (True, True) in found, (False, True) not in found, (True, False) not in found
+    shared = meet or share_point(borders(rule, subject), borders(rule, clip))
+    return "".join("01"[it] for it in (meet, covered, within, covered and within, shared and not meet, not shared))
 
 
 # ---- random pairs
@@ -236,7 +287,7 @@ def run(folder, text):
     program.write_text(PROGRAM)
     command = ["rt", "try", "--steps", "1000", "--seconds", str(SECONDS)]
     done = subprocess.run(command, cwd=program.parent.parent, input=text, capture_output=True, text=True, check=False)
-    found = [it for it in done.stdout.splitlines() if len(it) == len("0000")]
+    found = [it for it in done.stdout.splitlines() if len(it) == len("000000")]
     if len(found) != text.count("\n"):
         sys.exit(f"{len(found)} of {text.count(chr(10))} lines were printed\n{done.stdout[-500:]}{done.stderr[-2000:]}")
     return found

@@ -1,7 +1,9 @@
 pub mod Relations
 pub mod Boundaries
+pub mod Contacts
 pub mod Refusals
 pub mod Regions
 -- what only contracts of private functions use
 pub mod steps
 pub mod Laws
+pub mod ContactLaws

@@ -4,6 +4,7 @@ use Rattle.overlay_geometry.specs.Points.{Point}
 use Rattle.overlay_base.specs.declared.overlay_core.fill_rule.FillRule.{FillRule}
 use Rattle.overlay_contours.specs.ContoursOf.{contours_of}
 use Rattle.overlay_relations.specs.Boundaries.{IsBoundaryOf}
+use Rattle.overlay_relations.specs.Contacts.{AreDisjoint, Touch}
 use Rattle.overlay_relations.specs.Relations.{InteriorsMeet, Covers, IsWithin, AreSameRegion}
 use Rattle.overlay_relations.specs.declared.region.Region.{Region}
 
@@ -25,7 +26,8 @@ Decides relation first second found =
     (subject_rule clip_rule : FillRule) (subject clip : List (List Point)) → IsRegionOf subject_rule subject first → IsRegionOf clip_rule clip second →
     (found ≡ true) ↔ relation subject_rule clip_rule subject clip
 
--- It says so of interiors that meet, of a first shape that covers the second, of one that is within it, and of one region.
+-- It says so of interiors that meet, of a first shape that covers the second, of one that is within it, of one region, of shapes that
+-- touch, and of disjoint ones.
 abbrev pub DecidesMeeting : {I : Type 0} {w : _} {o : _} {e : _} {p : _} → Region I w o e p → Region I w o e p → Bool → Type 0
 DecidesMeeting first second found = Decides InteriorsMeet first second found
 
@@ -37,3 +39,9 @@ DecidesLyingWithin first second found = Decides IsWithin first second found
 
 abbrev pub DecidesSameness : {I : Type 0} {w : _} {o : _} {e : _} {p : _} → Region I w o e p → Region I w o e p → Bool → Type 0
 DecidesSameness first second found = Decides AreSameRegion first second found
+
+abbrev pub DecidesTouching : {I : Type 0} {w : _} {o : _} {e : _} {p : _} → Region I w o e p → Region I w o e p → Bool → Type 0
+DecidesTouching first second found = Decides Touch first second found
+
+abbrev pub DecidesDisjointness : {I : Type 0} {w : _} {o : _} {e : _} {p : _} → Region I w o e p → Region I w o e p → Bool → Type 0
+DecidesDisjointness first second found = Decides AreDisjoint first second found

@@ -1,6 +1,7 @@
-// Exact predicates of two shapes: whether their interiors meet, whether one covers the other, and whether they are the same region.
+// Exact predicates of two shapes: whether their interiors meet, one covers the other, both are the same region, they touch or are disjoint.
 #![tactic(auto)]
 
+pub mod contacts;
 pub mod fault;
 pub mod predicates;
 pub mod region;

@@ -265,7 +265,7 @@ fn exact_overlay<I: OverlayInt>(
 }
 
 /// Adds contours in range behind those of a shape.
-fn add_contours<I: OverlayInt>(
+pub(crate) fn add_contours<I: OverlayInt>(
     overlay: &mut Overlay<I>,
     contours: &[IntContour<I>],
     shape_type: ShapeType,

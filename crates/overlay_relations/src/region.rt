@@ -6,6 +6,7 @@ ghost use Rattle.overlay_contours.specs.ContoursOf.{contours_of};
 ghost use Rattle.overlay_contours.specs.ContourSegments.{are_in_range};
 ghost use Rattle.overlay_relations.specs.Refusals.{IsOverlayRefusal, IsRegionRefusalOf};
 
+use crate::contacts::{boundary_contact, is_apart, is_touching};
 use crate::fault::RelationFault;
 use crate::predicates::{exact_boundary, holds_between, test_range};
 use overlay_base::overlay_core::fill_rule::FillRule;
@@ -27,7 +28,7 @@ pub struct Region<I: OverlayInt> {
 }
 
 impl<I: OverlayInt> Region<I> {
-    ghost use Rattle.overlay_relations.specs.Regions.{boundary_of, IsRegionOf, DecidesMeeting, DecidesCovering, DecidesLyingWithin, DecidesSameness};
+    ghost use Rattle.overlay_relations.specs.Regions.{boundary_of, IsRegionOf, DecidesMeeting, DecidesCovering, DecidesLyingWithin, DecidesSameness, DecidesTouching, DecidesDisjointness};
 
     /// The region of contours under a fill rule. Two regions that are compared may have two fill rules.
     ///
@@ -119,5 +120,24 @@ impl<I: OverlayInt> Region<I> {
             OverlayRule::Xor,
         )?;
         Ok(!differ)
+    }
+
+    /// Whether the regions touch: they share a point, and no point is inside both, as the function `touches` returns it. Errors
+    /// are those of `interiors_meet`.
+    pub fn touches(&self, other: &Region<I>, solver: &Solver) -> Result<bool, ContourFault>
+        ensures touch { IfOk result (DecidesTouching self.now other.now) }
+        ensures refused { IfErr result (IsOverlayRefusal (boundary_of self.now) (boundary_of other.now)) }
+    {
+        let contact = boundary_contact(self.alloc, &self.boundary, &other.boundary, solver)?;
+        Ok(is_touching(contact))
+    }
+
+    /// Whether the regions share no point, neither inside nor on their boundaries. Errors are those of `interiors_meet`.
+    pub fn is_disjoint(&self, other: &Region<I>, solver: &Solver) -> Result<bool, ContourFault>
+        ensures disjoint { IfOk result (DecidesDisjointness self.now other.now) }
+        ensures refused { IfErr result (IsOverlayRefusal (boundary_of self.now) (boundary_of other.now)) }
+    {
+        let contact = boundary_contact(self.alloc, &self.boundary, &other.boundary, solver)?;
+        Ok(is_apart(contact))
     }
 }

@@ -2,4 +2,6 @@
 #![tactic(auto)]
 
 #[cfg(test)]
+mod contacts;
+#[cfg(test)]
 mod predicates;

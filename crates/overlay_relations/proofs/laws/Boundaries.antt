@@ -1,6 +1,6 @@
 -- The boundary of a shape, exactly, as an arrangement of segments: planar, balanced, and winding once around each place inside.
 -- Beside each segment, on its two sides, one place is inside and one is not.
-use Rattle.std.proofs.Common.{◌≡◌, ap, ap₂, refl, sym, subst, ◌∙◌, arith, ℕ, ◌+◌, ◌*◌, ◌<◌, ◌≤◌, [], ◌++◌, map, filter}
+use Rattle.std.proofs.Common.{◌≡◌, ap, ap₂, refl, sym, subst, ◌∙◌, arith, ℕ, ◌*◌, ◌<◌, ◌≤◌, [], ◌++◌, map, filter}
 use Rattle.std.specs.Prelude.{ℤ, pos, negsuc, ◌+ℤ◌, ◌-ℤ◌, ◌*ℤ◌, ◌<ℤ◌, unsigned_abs, bit_or, IsTrue, Bool, true, false, not, if◌then◌else◌, ◌&&◌, ◌==◌, List}
 use Rattle.std.specs.List.{list_all, AllByRecursion}
 use Rattle.std.proofs.lemmas.Int.{ints}
@@ -128,7 +128,7 @@ edges_ordered contours g m =
 
 -- ---- the segments of contours, as those of one shape
 
-pair_of_step : (shape_type : ShapeType) (s : Pair) → (step_segment shape_type s).pair ≡ in_order s
+pub pair_of_step : (shape_type : ShapeType) (s : Pair) → (step_segment shape_type s).pair ≡ in_order s
 pair_of_step shape_type s = by (point_lt s.a s.b)
   where
     by : (b : Bool) → (let w : WholeSegment = if b then record { pair = s; count = direct_winding boolean_made shape_type } else record { pair = turned s; count = inverted_winding boolean_made shape_type } in w.pair) ≡ (if b then s else turned s)
@@ -152,11 +152,11 @@ abbrev pub part : ShapeType → Winding → ℤ
 part Subject w = w.subj
 part Clip w = w.clip
 
-shape_balances : (shape_type : ShapeType) (contours : List (List Point)) → IsBalanced (contour_segments shape_type contours)
+pub shape_balances : (shape_type : ShapeType) (contours : List (List Point)) → IsBalanced (contour_segments shape_type contours)
 shape_balances Subject contours = subst (λ (xs : List WholeSegment). IsBalanced xs) (subject_alone contours) (overlay_balances contours [])
 shape_balances Clip contours = subst (λ (xs : List WholeSegment). IsBalanced xs) (clip_alone contours) (overlay_balances [] contours)
 
-shape_winds : (shape_type : ShapeType) (contours : List (List Point)) (p : RationalPoint) → part shape_type (winding_below (contour_segments shape_type contours) p) ≡ winding_number contours p
+pub shape_winds : (shape_type : ShapeType) (contours : List (List Point)) (p : RationalPoint) → part shape_type (winding_below (contour_segments shape_type contours) p) ≡ winding_number contours p
 shape_winds Subject contours p = ap (λ (xs : List WholeSegment). (winding_below xs p).subj) (sym (subject_alone contours)) ∙ ap (λ (w : Winding). w.subj) (overlay_winds contours [] p)
 shape_winds Clip contours p = ap (λ (xs : List WholeSegment). (winding_below xs p).clip) (sym (clip_alone contours)) ∙ ap (λ (w : Winding). w.clip) (overlay_winds [] contours p)
 

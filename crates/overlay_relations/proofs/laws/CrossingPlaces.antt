@@ -28,7 +28,7 @@ above_all_step : {X : Type 0} (f : X → ℕ) (y : X) (ys : List X) (n : ℕ) �
 above_all_step f y ys n h x (inl e) = let same : f y ≡ f x = ap f e in omega (arith, same)
 above_all_step f y ys n h x (inr m) = let less = h x m in omega (arith, less)
 
-above_all : {X : Type 0} (f : X → ℕ) (xs : List X) → (n : ℕ) × ((x : X) → Has xs x → f x < n)
+pub above_all : {X : Type 0} (f : X → ℕ) (xs : List X) → (n : ℕ) × ((x : X) → Has xs x → f x < n)
 above_all f [] = (0, λ x m. absurd m)
 above_all f (y ∷ ys) = let rest = above_all f ys in (suc (f y) + rest.0, above_all_step f y ys rest.0 rest.1)
 
@@ -96,7 +96,7 @@ signed c false some = by_sign c
 -- ---- ways along two pairs
 
 -- the turn from one pair to another
-abbrev by_pair : Pair → Pair → ℤ
+abbrev pub by_pair : Pair → Pair → ℤ
 by_pair u t = width u *ℤ (t.b.y -ℤ t.a.y) -ℤ (u.b.y -ℤ u.a.y) *ℤ width t
 
 abbrev way : ℤ → Pair → ℤ → Pair → Point
@@ -167,13 +167,13 @@ grouped : (k u c : ℤ) → (k *ℤ u) *ℤ c ≡ k *ℤ (u *ℤ c)
 grouped k u c = rw (as_D k, as_D u, as_D c) (simp diffs (D-eq _ _ _ _ (omega arith)))
 
 -- a way with its turns from two pairs, along no line of a list
-record IsWay (s t : Pair) (lines : List Pair) (left_of_s left_of_t : Bool) : Type 0 where
-  step : Point
-  s_up : left_of_s ≡ true → pos 0 <ℤ turn_by s step
-  s_down : left_of_s ≡ false → turn_by s step <ℤ pos 0
-  t_up : left_of_t ≡ true → pos 0 <ℤ turn_by t step
-  t_down : left_of_t ≡ false → turn_by t step <ℤ pos 0
-  off_lines : (g : Pair) → Has lines g → turn_by g step ≡ pos 0 → ⊥
+pub record IsWay (s t : Pair) (lines : List Pair) (left_of_s left_of_t : Bool) : Type 0 where
+  pub step : Point
+  pub s_up : left_of_s ≡ true → pos 0 <ℤ turn_by s step
+  pub s_down : left_of_s ≡ false → turn_by s step <ℤ pos 0
+  pub t_up : left_of_t ≡ true → pos 0 <ℤ turn_by t step
+  pub t_down : left_of_t ≡ false → turn_by t step <ℤ pos 0
+  pub off_lines : (g : Pair) → Has lines g → turn_by g step ≡ pos 0 → ⊥
 
 module _ (s t : Pair) (some : by_pair s t ≡ pos 0 → ⊥) (lines : List Pair) (each : (g : Pair) → Has lines g → Before g.a g.b) (left_of_s left_of_t : Bool) where
   some_back : by_pair t s ≡ pos 0 → ⊥
@@ -224,7 +224,7 @@ module _ (s t : Pair) (some : by_pair s t ≡ pos 0 → ⊥) (lines : List Pair)
       plain : (a b n : ℕ) → a ≡ b → b < n → a < suc n
       plain a b n e l = omega (arith, e, l)
 
-  the_way : IsWay s t lines left_of_s left_of_t
+  pub the_way : IsWay s t lines left_of_s left_of_t
   the_way = record {
     step = along;
     s_up = λ e. subst (λ (z : ℤ). pos 0 <ℤ z) (sym turn_of_s) (mul-pos (pos far) _ far_some (for_s.up e));
@@ -259,12 +259,12 @@ pub record IsBesideOne (xs : List WholeSegment) (s : Pair) (lines : List Pair) (
   pub off_lines : IsOffLines lines place
   pub side : IsBeside xs s left place
 
-product_some : (m n : ℕ) → 0 < m → 0 < n → 0 < (m * n)
+pub product_some : (m n : ℕ) → 0 < m → 0 < n → 0 < (m * n)
 product_some zero n h l = absurd (omega (arith, h))
 product_some (suc m) zero h l = absurd (omega (arith, l))
 product_some (suc m) (suc n) h l = omega arith
 
-near_off_line : (g : Pair) (p : RationalPoint) (v : Point) (n : ℕ) → unsigned_abs (turn_by g v) < n → (turn_by g v ≡ pos 0 → ⊥) → place_turn g (near p v n) ≡ pos 0 → ⊥
+pub near_off_line : (g : Pair) (p : RationalPoint) (v : Point) (n : ℕ) → unsigned_abs (turn_by g v) < n → (turn_by g v ≡ pos 0 → ⊥) → place_turn g (near p v n) ≡ pos 0 → ⊥
 near_off_line g p v n small some z = sum_some n (place_turn g p) (turn_by g v) small (λ e f. some f) (sym (near_turn g p v n) ∙ z)
 
 crossing_turns : (a b p q : Point) → (b.x -ℤ a.x) *ℤ (q.y -ℤ p.y) -ℤ (b.y -ℤ a.y) *ℤ (q.x -ℤ p.x) ≡ turn a b q -ℤ turn a b p
@@ -344,10 +344,10 @@ module _ (xs ys : List WholeSegment) (first : IsArranged xs) (second : IsArrange
 -- ---- places beside one
 
 -- what is upright on a segment
-abbrev upright_on : Pair → Pair
+abbrev pub upright_on : Pair → Pair
 upright_on s = record { a = record { x = pos 0; y = pos 0 }; b = record { x = neg_ℤ (s.b.y -ℤ s.a.y); y = width s } }
 
-upright_some : (s : Pair) → Before s.a s.b → by_pair s (upright_on s) ≡ pos 0 → ⊥
+pub upright_some : (s : Pair) → Before s.a s.b → by_pair s (upright_on s) ≡ pos 0 → ⊥
 upright_some s o e = sum_of_squares (width s) (s.b.y -ℤ s.a.y) (sides s.a.x s.a.y s.b.x s.b.y o) (sym (plain (width s) (s.b.y -ℤ s.a.y)) ∙ e)
   where
     plain : (w h : ℤ) → w *ℤ (w -ℤ pos 0) -ℤ h *ℤ (neg_ℤ h -ℤ pos 0) ≡ w *ℤ w +ℤ h *ℤ h

@@ -1,6 +1,6 @@
 -- Where the overlay of two boundaries moves nothing, it is empty exactly if its rule holds at no point: beside an edge, it holds
 -- on one side.
-use Rattle.std.proofs.Common.{◌≡◌, ap, ap₂, refl, sym, subst, ◌∙◌, arith, ℕ, ◌+◌, ◌<◌, ◌≤◌, inl, inr, cond, [], ◌∷◌, ◌++◌, filter}
+use Rattle.std.proofs.Common.{◌≡◌, ap, ap₂, refl, sym, subst, ◌∙◌, arith, ℕ, ◌<◌, ◌≤◌, inl, inr, cond, [], ◌∷◌, ◌++◌, filter}
 use Rattle.std.specs.Prelude.{ℤ, pos, ◌+ℤ◌, ◌-ℤ◌, Bool, true, false, if◌then◌else◌, ◌⊎◌, List, count_by}
 use Rattle.std.proofs.lemmas.Int.{ints}
 use Rattle.std.proofs.lemmas.Bool.{both_ways, cases_Bool, false_from_ne_true}
@@ -74,7 +74,7 @@ add_empty c e = let x : c.subj +ℤ pos 0 ≡ c.subj = omega (arith, ints) in le
     masked : (c : Winding) → c.subj +ℤ pos 0 ≡ c.subj → c.clip +ℤ pos 0 ≡ c.clip → c.mask ≡ 0 → add c empty ≡ c
     masked c x y e = rw e (λ i. record { subj = x i; clip = y i; mask = 0 })
 
-once_counts : (bag : List WholeSegment) (s : WholeSegment) → s.count.mask ≡ 0 → Has bag s → count_by (λ r. pair_eq r s.pair) (pairs bag) ≤ 1 → winding_at bag s.pair ≡ s.count
+pub once_counts : (bag : List WholeSegment) (s : WholeSegment) → s.count.mask ≡ 0 → Has bag s → count_by (λ r. pair_eq r s.pair) (pairs bag) ≤ 1 → winding_at bag s.pair ≡ s.count
 once_counts [] s e i few = absurd i
 once_counts (x ∷ xs) s e (inl same) few =
     subst (λ (u : WholeSegment). winding_at (u ∷ xs) s.pair ≡ s.count) (sym same)
@@ -86,7 +86,7 @@ once_counts (x ∷ xs) s e (inr i) few = elim (cases_Bool (pair_eq x.pair s.pair
 
 -- ---- an overlay that is not empty has a segment
 
-step_counts : (s : Pair) → ((step_segment Subject s).count.mask ≡ 0) × (is_not_empty (step_segment Subject s).count ≡ true)
+pub step_counts : (s : Pair) → ((step_segment Subject s).count.mask ≡ 0) × (is_not_empty (step_segment Subject s).count ≡ true)
 step_counts s = by (point_lt s.a s.b)
   where
     by : (b : Bool) → ((let w : WholeSegment = if b then record { pair = s; count = direct_winding boolean_made Subject } else record { pair = turned s; count = inverted_winding boolean_made Subject } in w.count.mask) ≡ 0)
@@ -107,21 +107,21 @@ some_step (c ∷ contours) proper some =
 
 -- ---- far from what is given, so far from the boundaries
 
-has_either : (xs ys : List Pair) (s : Pair) → Has (xs ++ ys) s → Has xs s ⊎ Has ys s
+pub has_either : (xs ys : List Pair) (s : Pair) → Has (xs ++ ys) s → Has xs s ⊎ Has ys s
 has_either [] ys s m = inr m
 has_either (x ∷ xs) ys s (inl e) = inl (inl e)
 has_either (x ∷ xs) ys s (inr m) = elim (has_either xs ys s m) [ inl i ↦ inl (inr i) | inr i ↦ inr i ]
 
-far_both : (p : RationalPoint) (xs ys : List Pair) → IsFar 0 p xs → IsFar 0 p ys → IsFar 0 p (xs ++ ys)
+pub far_both : (p : RationalPoint) (xs ys : List Pair) → IsFar 0 p xs → IsFar 0 p ys → IsFar 0 p (xs ++ ys)
 far_both p xs ys h k (s, m, near) = elim (has_either xs ys s (Has-from_Contains (xs ++ ys) s m)) [
   | inl i ↦ h (s, Contains-from_Has xs s i, near)
   | inr i ↦ k (s, Contains-from_Has ys s i, near)
 ]
 
-far_boundary : (fill_rule : FillRule) (contours boundary : List (List Point)) → IsBoundaryOf fill_rule contours boundary → (p : RationalPoint) → IsFar 0 p (edges contours) → IsFar 0 p (edges boundary)
+pub far_boundary : (fill_rule : FillRule) (contours boundary : List (List Point)) → IsBoundaryOf fill_rule contours boundary → (p : RationalPoint) → IsFar 0 p (edges contours) → IsFar 0 p (edges boundary)
 far_boundary fill_rule contours boundary is p far = IsFar-result 0 0 p (edges contours ++ edges []) (edges boundary) is.near (far_alone p contours far)
 
-nonzero_truth : (b : Bool) → is_inside NonZero (truth b) ≡ b
+pub nonzero_truth : (b : Bool) → is_inside NonZero (truth b) ≡ b
 nonzero_truth true = refl
 nonzero_truth false = refl
 

@@ -1,6 +1,6 @@
 -- A place strictly inside a segment, and where it lies with respect to the other segments of an arrangement: on the left or on the right of
 -- each, or on its line and beyond an end. Times the bottom of the place all points are whole, so what holds of whole points holds of it.
-use Rattle.std.proofs.Common.{◌≡◌, ap, refl, sym, subst, ◌∙◌, arith, ℕ, ◌+◌, ◌*◌, ◌<◌, inl, inr, IsTrue}
+use Rattle.std.proofs.Common.{◌≡◌, ap, refl, sym, subst, ◌∙◌, arith, ℕ, ◌+◌, ◌<◌, inl, inr, IsTrue}
 use Rattle.std.specs.Prelude.{ℤ, pos, negsuc, ◌+ℤ◌, ◌-ℤ◌, ◌*ℤ◌, neg_ℤ, ◌<ℤ◌, unsigned_abs, ◌⊎◌}
 use Rattle.std.proofs.lemmas.Int.{ints}
 use Rattle.std.proofs.lemmas.Bool.{cases_Bool}

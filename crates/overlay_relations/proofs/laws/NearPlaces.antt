@@ -115,13 +115,13 @@ turn_is_height s p = plain s.a.y s.a.x (width s) (s.b.y -ℤ s.a.y) p.x p.y (pos
     plain : (ay ax w h x y d : ℤ) → w *ℤ (y -ℤ ay *ℤ d) -ℤ h *ℤ (x -ℤ ax *ℤ d) ≡ y *ℤ w -ℤ (ay *ℤ (w *ℤ d) +ℤ h *ℤ (x -ℤ ax *ℤ d))
     plain ay ax w h x y d = rw (as_D ay, as_D ax, as_D w, as_D h, as_D x, as_D y, as_D d) (simp diffs (D-eq _ _ _ _ (omega arith)))
 
-runs_below-true : (s : Pair) (p : RationalPoint) → pos 0 <ℤ place_turn s p → runs_below s p ≡ true
+pub runs_below-true : (s : Pair) (p : RationalPoint) → pos 0 <ℤ place_turn s p → runs_below s p ≡ true
 runs_below-true s p l = lt-test (height_at s p) (p.y *ℤ width s) (plain (place_turn s p) (p.y *ℤ width s) (height_at s p) (turn_is_height s p) l)
   where
     plain : (t y h : ℤ) → t ≡ y -ℤ h → pos 0 <ℤ t → h <ℤ y
     plain t y h e l = omega (arith, ints, e, l)
 
-runs_below-false : (s : Pair) (p : RationalPoint) → place_turn s p <ℤ pos 0 → runs_below s p ≡ false
+pub runs_below-false : (s : Pair) (p : RationalPoint) → place_turn s p <ℤ pos 0 → runs_below s p ≡ false
 runs_below-false s p l = lt-test_false (height_at s p) (p.y *ℤ width s) (plain (place_turn s p) (p.y *ℤ width s) (height_at s p) (turn_is_height s p) l)
   where
     plain : (t y h : ℤ) → t ≡ y -ℤ h → t <ℤ pos 0 → y ≤ℤ h
@@ -303,7 +303,7 @@ no_span_upright u q e h =
     off a b x h l e = omega (arith, ints, h, l, e)
 
 module _ (s : Pair) (v : Point) (n : ℕ) (u : Pair) (fine : IsFine s v n u) (p : RationalPoint) (ordered : Before u.a u.b) where
-  no_span_beyond : IsBeyondEnds u p → spans u (near p v n) ≡ true → ⊥
+  pub no_span_beyond : IsBeyondEnds u p → spans u (near p v n) ≡ true → ⊥
   no_span_beyond (zero, where_it_is) = elim ordered [
     | inl wide ↦ elim where_it_is [
       | inl l ↦ no_span_before u (near p v n) (before_in_x s v n u fine p u.a.x (strictly_before u p wide zero l))

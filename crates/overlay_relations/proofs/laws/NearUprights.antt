@@ -1,5 +1,5 @@
 -- The same beside a vertical segment, to the left and to the right of it; and both kinds together.
-use Rattle.std.proofs.Common.{◌≡◌, ap, refl, sym, subst, ◌∙◌, arith, ℕ, ◌+◌, ◌*◌, ◌<◌, inl, inr}
+use Rattle.std.proofs.Common.{◌≡◌, ap, refl, sym, subst, ◌∙◌, arith, ℕ, ◌<◌, inl, inr}
 use Rattle.std.specs.Prelude.{ℤ, pos, ◌+ℤ◌, ◌-ℤ◌, ◌*ℤ◌, neg_ℤ, ◌<ℤ◌, ◌≤ℤ◌, int_le, int_lt, IsTrue, Bool, true, false, not, ◌&&◌, ◌||◌, ◌⊎◌, List}
 use Rattle.std.specs.List.{list_all}
 use Rattle.std.specs.Int.{int_min, int_max}
@@ -25,7 +25,7 @@ use Rattle.overlay_relations.proofs.laws.NearPlaces.{near, turn_by, near_turn, a
 -- ---- heights beyond the ends
 
 -- a place is lower than both ends, or higher than both, or the pair is level
-abbrev IsOffLevel : Pair → RationalPoint → Type 0
+abbrev pub IsOffLevel : Pair → RationalPoint → Type 0
 IsOffLevel u q =
     ((q.y <ℤ (u.a.y *ℤ pos q.bottom)) × (q.y <ℤ (u.b.y *ℤ pos q.bottom)))
     ⊎ ((((u.a.y *ℤ pos q.bottom) <ℤ q.y) × ((u.b.y *ℤ pos q.bottom) <ℤ q.y)) ⊎ (u.a.y ≡ u.b.y))
@@ -48,12 +48,12 @@ no_pass_level a b y e = no_pass a b y (λ l. off a b l e)
     off : (a b : ℤ) → a <ℤ b → a ≡ b → ⊥
     off a b l e = omega (arith, ints, l, e)
 
-not_rising : (u : Pair) (q : RationalPoint) → IsOffLevel u q → rises_past u q ≡ false
+pub not_rising : (u : Pair) (q : RationalPoint) → IsOffLevel u q → rises_past u q ≡ false
 not_rising u q (inl l) = no_start (u.a.y *ℤ pos q.bottom) (u.b.y *ℤ pos q.bottom) q.y l.0
 not_rising u q (inr (inl l)) = no_end (u.a.y *ℤ pos q.bottom) (u.b.y *ℤ pos q.bottom) q.y l.1
 not_rising u q (inr (inr e)) = no_pass_level (u.a.y *ℤ pos q.bottom) (u.b.y *ℤ pos q.bottom) q.y (ap (λ (z : ℤ). z *ℤ pos q.bottom) e)
 
-not_falling : (u : Pair) (q : RationalPoint) → IsOffLevel u q → falls_past u q ≡ false
+pub not_falling : (u : Pair) (q : RationalPoint) → IsOffLevel u q → falls_past u q ≡ false
 not_falling u q (inl l) = no_start (u.b.y *ℤ pos q.bottom) (u.a.y *ℤ pos q.bottom) q.y l.1
 not_falling u q (inr (inl l)) = no_end (u.b.y *ℤ pos q.bottom) (u.a.y *ℤ pos q.bottom) q.y l.0
 not_falling u q (inr (inr e)) = no_pass_level (u.b.y *ℤ pos q.bottom) (u.a.y *ℤ pos q.bottom) q.y (ap (λ (z : ℤ). z *ℤ pos q.bottom) (sym e))
@@ -147,12 +147,12 @@ module _ (u : Pair) (p : RationalPoint) (some : 0 < p.bottom) (zero : place_turn
     upright_off (inr l) = let high = upright_high l in inr (inl (less_trans _ _ _ (times_less u.a.y u.b.y p.bottom some upward) high, high))
 
 -- what is beyond its ends is off level at the place, and near it
-beyond_off_level : (u : Pair) (p : RationalPoint) → 0 < p.bottom → Before u.a u.b → IsBeyondEnds u p → IsOffLevel u p
+pub beyond_off_level : (u : Pair) (p : RationalPoint) → 0 < p.bottom → Before u.a u.b → IsBeyondEnds u p → IsOffLevel u p
 beyond_off_level u p some (inl wide) (zero, inl l) = before_start u p some zero wide (strictly_before u p wide zero l)
 beyond_off_level u p some (inl wide) (zero, inr l) = after_end u p some zero wide (strictly_after u p wide zero l)
 beyond_off_level u p some (inr r) (zero, where_it_is) = upright_off u p some zero r.0 r.1 where_it_is
 
-near_off_level : (s : Pair) (v : Point) (n : ℕ) (u : Pair) → IsFine s v n u → (p : RationalPoint) → IsOffLevel u p → IsOffLevel u (near p v n)
+pub near_off_level : (s : Pair) (v : Point) (n : ℕ) (u : Pair) → IsFine s v n u → (p : RationalPoint) → IsOffLevel u p → IsOffLevel u (near p v n)
 near_off_level s v n u fine p (inl l) = inl (before_in_y s v n u fine p u.a.y l.0, before_in_y s v n u fine p u.b.y l.1)
 near_off_level s v n u fine p (inr (inl l)) = inr (inl (after_in_y s v n u fine p u.a.y l.0, after_in_y s v n u fine p u.b.y l.1))
 near_off_level s v n u fine p (inr (inr e)) = inr (inr e)
@@ -209,7 +209,7 @@ module _ (s : Pair) (v : Point) (n : ℕ) (u : Pair) (fine : IsFine s v n u) (p 
     ]
   ]
 
-  off_passes : IsOff u p → goes_through u (near p v n) ≡ false
+  pub off_passes : IsOff u p → goes_through u (near p v n) ≡ false
   off_passes (inl l) = passes_by_turn u (near p v n) (not_zero_down _ (near_right s v n u fine p l))
   off_passes (inr (inl l)) = passes_by_turn u (near p v n) (not_zero_up _ (near_left s v n u fine p l))
   off_passes (inr (inr b)) = beyond_passes b
@@ -243,16 +243,16 @@ same_side true true false false near off f g = refl
 no_side : (rises falls here there near off : Bool) → rises ≡ false → falls ≡ false → (not (rises && here || falls && there) || (rises && near || falls && off)) ≡ true
 no_side rises falls here there near off e f = rw (e, f) refl
 
-on_left_at : (u : Pair) (q : RationalPoint) → pos 0 <ℤ place_turn u q → has_on_left u q ≡ true
+pub on_left_at : (u : Pair) (q : RationalPoint) → pos 0 <ℤ place_turn u q → has_on_left u q ≡ true
 on_left_at u q l = lt-test _ _ l
 
-on_right_at : (u : Pair) (q : RationalPoint) → place_turn u q <ℤ pos 0 → has_on_right u q ≡ true
+pub on_right_at : (u : Pair) (q : RationalPoint) → place_turn u q <ℤ pos 0 → has_on_right u q ≡ true
 on_right_at u q l = lt-test _ _ l
 
-not_left_at : (u : Pair) (q : RationalPoint) → place_turn u q ≤ℤ pos 0 → has_on_left u q ≡ false
+pub not_left_at : (u : Pair) (q : RationalPoint) → place_turn u q ≤ℤ pos 0 → has_on_left u q ≡ false
 not_left_at u q l = lt-test_false _ _ l
 
-not_right_at : (u : Pair) (q : RationalPoint) → pos 0 ≤ℤ place_turn u q → has_on_right u q ≡ false
+pub not_right_at : (u : Pair) (q : RationalPoint) → pos 0 ≤ℤ place_turn u q → has_on_right u q ≡ false
 not_right_at u q l = lt-test_false _ _ l
 
 from_false : (b c : Bool) → b ≡ false → b ≡ true → c ≡ true

@@ -1,0 +1,9 @@
+use Rattle.overlay_relations.specs.Regions.{boundary_of}
+use Rattle.overlay_relations.specs.steps.ContactOutcomes.{IsBoundaryContact}
+use Rattle.overlay_relations.proofs.laws.ContactOutcomes.{lying_apart}
+use Rattle.overlay_relations.proofs.region.Region.is_disjoint.Goals as goal
+
+pub returns-clause-disjoint : goal.returns-clause-disjoint
+returns-clause-disjoint g c =
+    let is : IsBoundaryContact (boundary_of c.args.self.now) (boundary_of c.args.other.now) c.in_ok-contact.contact = rw (c.deref.ensures.value, c.deref-2.ensures.value) at c.in_ok-contact.ensures.contact in
+    λ subject_rule clip_rule subject clip a b. lying_apart subject_rule clip_rule subject clip c.in_ok-contact.contact (is subject_rule clip_rule subject clip a b) c.is_apart.result c.is_apart.ensures
