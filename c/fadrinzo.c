@@ -218,7 +218,7 @@ static int is_fill_rule(int fill_rule)
 
 static int is_relation(int relation)
 {
-    return relation >= FADRINZO_INTERIORS_MEET && relation <= FADRINZO_SAME_REGION;
+    return relation >= FADRINZO_INTERIORS_MEET && relation <= FADRINZO_DISJOINT;
 }
 
 /* The strategy Auto, snap rounding. */

@@ -60,7 +60,7 @@ typedef enum {
     FADRINZO_LOCATION_BAD_ARGUMENT = 5
 } fadrinzo_location;
 
-/* A relation of the subject and the clip. It reads the points of the plane on no edge of either, with any rational coordinates. */
+/* A relation of the subject and the clip, by the points of the plane with any rational coordinates. */
 enum {
     /* some point is inside both */
     FADRINZO_INTERIORS_MEET = 0,
@@ -69,7 +69,11 @@ enum {
     /* each point inside the subject is inside the clip */
     FADRINZO_IS_WITHIN = 2,
     /* each point is inside both, or inside neither */
-    FADRINZO_SAME_REGION = 3
+    FADRINZO_SAME_REGION = 3,
+    /* they share a point, inside or on their boundaries, and no point is inside both */
+    FADRINZO_TOUCH = 4,
+    /* they share no point, neither inside nor on their boundaries */
+    FADRINZO_DISJOINT = 5
 };
 
 /* The contours of a subject and of a clip, and the result of their last overlay. Of use to one thread at a time. */

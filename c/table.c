@@ -17,7 +17,7 @@
         } \
     } while (0)
 
-enum { POINTS = 4, CONTOURS = 4, SPAN = 24, NAMED = 7, TABLES = 16, RULES = NAMED + TABLES, FILLS = 4 };
+enum { POINTS = 4, CONTOURS = 4, SPAN = 24, NAMED = 7, TABLES = 16, RULES = NAMED + TABLES, FILLS = 4, RELATIONS = 6 };
 
 /* A contour of a shape; of so many points. */
 typedef struct {
@@ -342,34 +342,46 @@ static void check_polygons(void)
     fadrinzo_free(overlay);
 }
 
-/* Squares in one another, for the subject and for the clip, and one that reaches out of them. */
+/* Squares in one another, for the subject and for the clip, and one that has a corner in common with the largest. */
 static const contour nested[6] = {
     {FADRINZO_SUBJECT, 4, {0, 0, 12, 0, 12, 12, 0, 12}},
     {FADRINZO_SUBJECT, 4, {2, 2, 10, 2, 10, 10, 2, 10}},
-    {FADRINZO_SUBJECT, 4, {10, 6, 10, 20, 20, 20, 20, 6}},
+    {FADRINZO_SUBJECT, 4, {12, 12, 12, 20, 20, 20, 20, 12}},
     {FADRINZO_CLIP, 4, {2, 10, 10, 10, 10, 2, 2, 2}},
     {FADRINZO_CLIP, 4, {0, 0, 12, 0, 12, 12, 0, 12}},
     {FADRINZO_CLIP, 4, {4, 4, 6, 4, 6, 6, 4, 6}},
 };
 
+/* Whether one of the four unit squares at a corner is inside a shape of such contours, so that the shape has the corner. */
+static int is_at(int shape, int fill_rule, int x, int y)
+{
+    int found = 0;
+    for (int of = 0; of < 4; of++)
+        found |= is_inside(fill_rule, winding_of_given(shape, x - of % 2, y - of / 2));
+    return found;
+}
+
 /* Whether a relation holds between the given contours, by its definition: their sides lie along the axes, so each unit square is inside or
    outside as a whole. */
 static int relation_of_given(int relation, int fill_rule)
 {
-    int in_both = 0, in_subject_alone = 0, in_clip_alone = 0;
-    for (int x = 0; x < SPAN; x++)
-        for (int y = 0; y < SPAN; y++) {
+    int in_both = 0, in_subject_alone = 0, in_clip_alone = 0, share = 0;
+    for (int x = 0; x <= SPAN; x++)
+        for (int y = 0; y <= SPAN; y++) {
             int s = is_inside(fill_rule, winding_of_given(FADRINZO_SUBJECT, x, y));
             int c = is_inside(fill_rule, winding_of_given(FADRINZO_CLIP, x, y));
             in_both |= s && c;
             in_subject_alone |= s && !c;
             in_clip_alone |= c && !s;
+            share |= is_at(FADRINZO_SUBJECT, fill_rule, x, y) && is_at(FADRINZO_CLIP, fill_rule, x, y);
         }
     switch (relation) {
     case FADRINZO_INTERIORS_MEET: return in_both;
     case FADRINZO_COVERS: return !in_clip_alone;
     case FADRINZO_IS_WITHIN: return !in_subject_alone;
-    default: return !in_subject_alone && !in_clip_alone;
+    case FADRINZO_SAME_REGION: return !in_subject_alone && !in_clip_alone;
+    case FADRINZO_TOUCH: return share && !in_both;
+    default: return !share;
     }
 }
 
@@ -388,7 +400,7 @@ static void check_relations(void)
         CHECK(overlay, "memory");
         add_all(overlay, some, count);
         for (int fill_rule = 0; fill_rule < FILLS; fill_rule++)
-            for (int relation = 0; relation < 4; relation++) {
+            for (int relation = 0; relation < RELATIONS; relation++) {
                 int found = -1, wanted = relation_of_given(relation, fill_rule);
                 CHECK(fadrinzo_relation(overlay, relation, fill_rule, &found) == FADRINZO_OK, "relation %d", relation);
                 CHECK(found == wanted, "squares %x, relation %d, fill %d", chosen, relation, fill_rule);
@@ -408,7 +420,7 @@ static void check_not_exact(void)
             CHECK(fadrinzo_add_contour(overlay, shape, bow, 4) == FADRINZO_OK, "shape %d", shape);
             CHECK(fadrinzo_add_contour(overlay, 1 - shape, both ? bow : squares[0].xy, 4) == FADRINZO_OK, "shape %d", shape);
             int wanted = both || shape == FADRINZO_SUBJECT ? FADRINZO_SUBJECT_NOT_EXACT : FADRINZO_CLIP_NOT_EXACT;
-            for (int relation = 0; relation < 4; relation++) {
+            for (int relation = 0; relation < RELATIONS; relation++) {
                 int found = -1;
                 CHECK((int)fadrinzo_relation(overlay, relation, 0, &found) == wanted && found == -1, "shape %d, relation %d", shape, relation);
             }
@@ -448,7 +460,7 @@ static void check_codes(fadrinzo *overlay)
         CHECK(fadrinzo_locate(overlay, 0, fill_rule, 0, 0) == FADRINZO_LOCATION_BAD_ARGUMENT, "fill %d", fill_rule);
     }
     check_drops(overlay, fadrinzo_overlay_by_rules(overlay, NULL, 1, 1));
-    static const int wrong_relations[] = {-1, 4, 256, INT32_MAX};
+    static const int wrong_relations[] = {-1, RELATIONS, 256, INT32_MAX};
     int found = -1;
     for (size_t i = 0; i < sizeof wrong_relations / sizeof *wrong_relations; i++)
         CHECK(fadrinzo_relation(overlay, wrong_relations[i], 1, &found) == FADRINZO_BAD_ARGUMENT && found == -1, "relation %d", wrong_relations[i]);

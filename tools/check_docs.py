@@ -54,9 +54,9 @@ LENGTHS = {
     "docs/LIMITS.md": 1_200,
     "docs/MEASUREMENTS.md": 1_950,
     "docs/PROGRAMS.md": 1_800,
-    "docs/THEOREMS.md": 6_250,
+    "docs/THEOREMS.md": 6_350,
 }
-ALL_WORDS, LINES_OF_README = 23_800, 120
+ALL_WORDS, LINES_OF_README = 24_000, 120
 # where a path of a document may begin, and how it may end
 OF_A_CRATE = ("", "src/", "specs/", "proofs/", "proofs/laws/*/")
 PLACES = ("", "rust/", "rust/src/", "rust/tests/", "bench/", *(f"crates/*/{it}" for it in OF_A_CRATE))

@@ -17,8 +17,8 @@ import pathlib
 import threading
 import weakref
 
-__all__ = ["Arrangement", "MAX_COORD", "MIN_COORD", "NotExactError", "OverlayError", "covers", "interiors_meet", "is_within", "locate", "overlay",
-           "overlay_by_rules", "overlay_polygons", "same_region"]
+__all__ = ["Arrangement", "MAX_COORD", "MIN_COORD", "NotExactError", "OverlayError", "covers", "interiors_meet", "is_disjoint", "is_within",
+           "locate", "overlay", "overlay_by_rules", "overlay_polygons", "same_region", "touches"]
 
 MIN_COORD, MAX_COORD = -(1 << 30), (1 << 30) - 1
 
@@ -26,7 +26,7 @@ RULES = {"subject": 0, "clip": 1, "intersect": 2, "union": 3, "difference": 4, "
 NOTHING = 16  # the table that keeps no point
 FILLS = {"evenodd": 0, "nonzero": 1, "positive": 2, "negative": 3}
 LOCATIONS = ["inside", "boundary", "outside"]
-RELATIONS = {"interiors-meet": 0, "covers": 1, "is-within": 2, "same-region": 3}
+RELATIONS = {"interiors-meet": 0, "covers": 1, "is-within": 2, "same-region": 3, "touch": 4, "disjoint": 5}
 VERSION = 2
 NO_MEMORY = 1
 NOT_EXACT = (6, 7)  # of the subject, of the clip
@@ -498,3 +498,22 @@ def same_region(subject, clip, fill="nonzero", scale=None):
     True
     """
     return _relation("same-region", subject, clip, fill, scale)
+
+
+def touches(subject, clip, fill="nonzero", scale=None):
+    """Whether two lists of contours share a point, inside or on their boundaries, and no point is inside both. Arguments and errors are those of
+    `interiors_meet`.
+
+    >>> touches([[(0, 0), (4, 0), (4, 4), (0, 4)]], [[(4, 4), (6, 4), (6, 6), (4, 6)]])
+    True
+    """
+    return _relation("touch", subject, clip, fill, scale)
+
+
+def is_disjoint(subject, clip, fill="nonzero", scale=None):
+    """Whether two lists of contours share no point, neither inside nor on their boundaries. Arguments and errors are those of `interiors_meet`.
+
+    >>> is_disjoint([[(0, 0), (4, 0), (4, 4), (0, 4)]], [[(4, 4), (6, 4), (6, 6), (4, 6)]])
+    False
+    """
+    return _relation("disjoint", subject, clip, fill, scale)

@@ -18,7 +18,7 @@ FILLS = {
     "positive": lambda winds: winds > 0,
     "negative": lambda winds: winds < 0,
 }
-RELATIONS = (fadrinzo.interiors_meet, fadrinzo.covers, fadrinzo.is_within, fadrinzo.same_region)
+RELATIONS = (fadrinzo.interiors_meet, fadrinzo.covers, fadrinzo.is_within, fadrinzo.same_region, fadrinzo.touches, fadrinzo.is_disjoint)
 RULES = {
     "subject": lambda s, c: s,
     "clip": lambda s, c: c,
@@ -112,13 +112,15 @@ class Table(unittest.TestCase):
             self.assertEqual(locate(doubled, doubled[0][2], fill=fill), "boundary")
 
     def test_relations(self):
-        # squares in one another, and one that reaches out of them: each unit square is inside or outside as a whole
-        nested = [rectangle(0, 0, 12, 12), rectangle(2, 2, 10, 10)[::-1], rectangle(10, 6, 20, 20), rectangle(4, 4, 6, 6)]
-        squares = [(x + 0.5, y + 0.5) for x in range(20) for y in range(20)]
+        # squares in one another, and one with a corner of them: each unit square is inside or outside as a whole
+        nested = [rectangle(0, 0, 6, 6), rectangle(1, 1, 5, 5)[::-1], rectangle(6, 6, 9, 9), rectangle(2, 2, 3, 3)]
+        corners = [(x, y) for x in range(10) for y in range(10)]
         choices = [list(it) for count in range(3) for it in itertools.combinations(nested, count)]
         for subject, clip, (fill, counts) in itertools.product(choices, choices, FILLS.items()):
-            kinds = {(counts(winding(subject, x, y)), counts(winding(clip, x, y))) for x, y in squares}
-            wanted = ((True, True) in kinds, (False, True) not in kinds, (True, False) not in kinds, kinds <= {(True, True), (False, False)})
+            inside = [{(x, y) for x, y in corners if counts(winding(side, x + 0.5, y + 0.5))} for side in (subject, clip)]
+            s, c = inside
+            share = bool(set.intersection(*({(x + dx, y + dy) for x, y in side for dx in (0, 1) for dy in (0, 1)} for side in inside)))
+            wanted = (bool(s & c), c <= s, s <= c, s == c, share and not s & c, not share)
             found = tuple(call(subject, clip, fill=fill) for call in RELATIONS)
             self.assertEqual(found, wanted, (subject, clip, fill))
 

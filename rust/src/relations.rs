@@ -9,13 +9,15 @@ enum Relation {
     Covers = 1,
     IsWithin = 2,
     SameRegion = 3,
+    Touch = 4,
+    Disjoint = 5,
 }
 
 /// Relations of the subject and the clip that were added. Nothing is rounded, and each result is proved.
 ///
-/// A relation reads the points on no edge of either shape, with any rational coordinates. Shapes that share parts of their
-/// boundaries alone do not meet. Which points are inside a shape follows from how often its contours wind around them, by
-/// the fill rule. The contours may cross and touch, and run either way.
+/// Points have any rational coordinates. Which are inside a shape follows from how often its contours wind around them, by the
+/// fill rule. The contours may cross and touch, and run either way. Points on edges count for [`Overlay::touches`] and
+/// [`Overlay::is_disjoint`] alone: shapes that share parts of their boundaries do not meet.
 ///
 /// Two edges of one shape may not cross at a point without integer coordinates. Edges of valid polygons never do, nor those
 /// of what an overlay returns. Else the call returns [`Error::NotExact`], which names the shape, the subject where both have
@@ -89,6 +91,38 @@ impl Overlay {
         self.holds(Relation::SameRegion, fill_rule)
     }
 
+    /// Whether the shapes share a point, inside or on their boundaries, and no point is inside both.
+    ///
+    /// A point is on the boundary of a shape if there are points inside and outside of it, however near to it.
+    ///
+    /// ```
+    /// use fadrinzo::{square, FillRule, Overlay};
+    ///
+    /// let mut corner = Overlay::with_contours(&[square(0, 4)], &[square(4, 6)])?;
+    /// assert!(corner.touches(FillRule::NonZero)?);
+    /// let mut overlay = Overlay::with_contours(&[square(0, 4)], &[square(3, 6)])?;
+    /// assert!(!overlay.touches(FillRule::NonZero)?);
+    /// # Ok::<(), fadrinzo::Error>(())
+    /// ```
+    pub fn touches(&mut self, fill_rule: FillRule) -> Result<bool, Error> {
+        self.holds(Relation::Touch, fill_rule)
+    }
+
+    /// Whether the shapes share no point, neither inside nor on their boundaries.
+    ///
+    /// ```
+    /// use fadrinzo::{square, FillRule, Overlay};
+    ///
+    /// let mut overlay = Overlay::with_contours(&[square(0, 4)], &[square(5, 6)])?;
+    /// assert!(overlay.is_disjoint(FillRule::NonZero)?);
+    /// let mut corner = Overlay::with_contours(&[square(0, 4)], &[square(4, 6)])?;
+    /// assert!(!corner.is_disjoint(FillRule::NonZero)?);
+    /// # Ok::<(), fadrinzo::Error>(())
+    /// ```
+    pub fn is_disjoint(&mut self, fill_rule: FillRule) -> Result<bool, Error> {
+        self.holds(Relation::Disjoint, fill_rule)
+    }
+
     /// Whether a relation holds.
     fn holds(&mut self, relation: Relation, fill_rule: FillRule) -> Result<bool, Error> {
         let settings = self.settings(Solver::AUTO, fill_rule);
@@ -116,6 +150,8 @@ impl FloatOverlay {
     /// assert!(overlay.covers(FillRule::NonZero)?);
     /// assert!(!overlay.is_within(FillRule::NonZero)?);
     /// assert!(!overlay.same_region(FillRule::NonZero)?);
+    /// assert!(!overlay.touches(FillRule::NonZero)?);
+    /// assert!(!overlay.is_disjoint(FillRule::NonZero)?);
     /// # Ok::<(), fadrinzo::FloatError>(())
     /// ```
     pub fn interiors_meet(&mut self, fill_rule: FillRule) -> Result<bool, FloatError> {
@@ -135,5 +171,15 @@ impl FloatOverlay {
     /// Whether each point is inside both shapes, or inside neither.
     pub fn same_region(&mut self, fill_rule: FillRule) -> Result<bool, FloatError> {
         Ok(self.overlay.same_region(fill_rule)?)
+    }
+
+    /// Whether the shapes share a point, inside or on their boundaries, and no point is inside both.
+    pub fn touches(&mut self, fill_rule: FillRule) -> Result<bool, FloatError> {
+        Ok(self.overlay.touches(fill_rule)?)
+    }
+
+    /// Whether the shapes share no point, neither inside nor on their boundaries.
+    pub fn is_disjoint(&mut self, fill_rule: FillRule) -> Result<bool, FloatError> {
+        Ok(self.overlay.is_disjoint(fill_rule)?)
     }
 }

@@ -11,6 +11,15 @@ use std::cmp::Ordering;
 
 type Contours = Vec<Vec<IntPoint>>;
 
+const RELATIONS: [fn(&mut Overlay, FillRule) -> Result<bool, Error>; 6] = [
+    Overlay::interiors_meet,
+    Overlay::covers,
+    Overlay::is_within,
+    Overlay::same_region,
+    Overlay::touches,
+    Overlay::is_disjoint,
+];
+
 const FILLS: [FillRule; 4] = [FillRule::EvenOdd, FillRule::NonZero, FillRule::Positive, FillRule::Negative];
 
 /// A fraction with a bottom above 0.
@@ -96,8 +105,39 @@ fn is_inside(fill_rule: FillRule, winding: i32) -> bool {
     }
 }
 
-/// Whether some cell is in both shapes, in the subject alone, and in the clip alone.
-fn cells(shapes: [&Contours; 2], fill_rule: FillRule) -> [bool; 3] {
+/// What two shapes have in common, by their cells.
+#[derive(Default)]
+struct Common {
+    in_both: bool,
+    in_subject_alone: bool,
+    in_clip_alone: bool,
+    /// For each side of a slab and each shape the closed intervals in which its cells meet that side.
+    sides: Vec<[Vec<[Fraction; 2]>; 2]>,
+}
+
+impl Common {
+    /// Adds a cell between two edges, in the slab at an index.
+    fn add(&mut self, slabs: &[Fraction], index: usize, edges: [&Edge; 2], inside: [bool; 2]) {
+        let [subject, clip] = inside;
+        self.in_both |= subject && clip;
+        self.in_subject_alone |= subject && !clip;
+        self.in_clip_alone |= clip && !subject;
+        for shape in (0..2).filter(|&shape| inside[shape]) {
+            for side in [index, index + 1] {
+                self.sides[side][shape].push(edges.map(|edge| edge.height(slabs[side])));
+            }
+        }
+    }
+
+    /// Whether the closed shapes share a point: if they do, they share one on the side of a slab.
+    fn share_a_point(&self) -> bool {
+        let meet = |[a, b]: &[Fraction; 2], [c, d]: &[Fraction; 2]| a.order(d).is_le() && c.order(b).is_le();
+        self.sides.iter().any(|[subject, clip]| subject.iter().any(|one| clip.iter().any(|other| meet(one, other))))
+    }
+}
+
+/// The cells of two shapes.
+fn cells(shapes: [&Contours; 2], fill_rule: FillRule) -> Common {
     let all = shapes.map(steps);
     let mut edges = Vec::new();
     for (shape, steps) in all.iter().enumerate() {
@@ -108,23 +148,23 @@ fn cells(shapes: [&Contours; 2], fill_rule: FillRule) -> [bool; 3] {
             edges.push(Edge { a, b, counts });
         }
     }
-    let mut found = [false; 3];
-    for pair in slabs(&all.concat()).windows(2) {
+    let slabs = slabs(&all.concat());
+    let mut common = Common { sides: vec![Default::default(); slabs.len()], ..Common::default() };
+    for (index, pair) in slabs.windows(2).enumerate() {
         let x = pair[0].middle(pair[1]);
         let mut row: Vec<_> = edges.iter().filter(|edge| edge.spans(x)).map(|edge| (edge.height(x), edge)).collect();
         row.sort_by(|one, other| one.0.order(&other.0));
         let mut winding = [0; 2];
-        for (index, (height, edge)) in row.iter().enumerate() {
+        for pair in row.windows(2) {
+            let [(height, edge), (above, next)] = [pair[0], pair[1]];
             winding = [winding[0] + edge.counts[0], winding[1] + edge.counts[1]];
             // edges at one height are on one line: nothing lies between them
-            if row.get(index + 1).is_none_or(|(above, _)| height.order(above).is_lt()) {
-                let [subject, clip] = winding.map(|winding| is_inside(fill_rule, winding));
-                let kinds = [subject && clip, subject && !clip, clip && !subject];
-                found = [0, 1, 2].map(|kind| found[kind] || kinds[kind]);
+            if height.order(&above).is_lt() {
+                common.add(&slabs, index, [edge, next], winding.map(|winding| is_inside(fill_rule, winding)));
             }
         }
     }
-    found
+    common
 }
 
 fn point(random: &mut Random, size: i32) -> IntPoint {
@@ -210,10 +250,10 @@ fn pair(random: &mut Random) -> [Contours; 2] {
 }
 
 /// Compares so many pairs. Returns of how many no relation was refused, and how often each held.
-fn compare(seed: u64, pairs: usize) -> (usize, [usize; 4]) {
+fn compare(seed: u64, pairs: usize) -> (usize, [usize; 6]) {
     let mut random = Random(seed.wrapping_mul(0x9e37_79b9_7f4a_7c15));
     let mut overlay = Overlay::new().unwrap();
-    let (mut decided, mut held) = (0, [0; 4]);
+    let (mut decided, mut held) = (0, [0; 6]);
     for _ in 0..pairs {
         let [subject, clip] = pair(&mut random);
         let fill_rule = FILLS[random.below(4) as usize];
@@ -223,18 +263,19 @@ fn compare(seed: u64, pairs: usize) -> (usize, [usize; 4]) {
                 overlay.add_contour(contour, shape_type).unwrap();
             }
         }
-        let found = [Overlay::interiors_meet, Overlay::covers, Overlay::is_within, Overlay::same_region]
-            .map(|relation| relation(&mut overlay, fill_rule));
+        let found = RELATIONS.map(|relation| relation(&mut overlay, fill_rule));
         if let Err(error) = found[0] {
             assert!(matches!(error, Error::NotExact(_)), "{error}");
             assert!(found.iter().all(|it| *it == found[0]), "{subject:?} {clip:?} {fill_rule}");
             continue;
         }
-        let [in_both, in_subject_alone, in_clip_alone] = cells([&subject, &clip], fill_rule);
-        let wanted = [in_both, !in_clip_alone, !in_subject_alone, !in_clip_alone && !in_subject_alone];
+        let common = cells([&subject, &clip], fill_rule);
+        let (covers, is_within) = (!common.in_clip_alone, !common.in_subject_alone);
+        let share = common.share_a_point();
+        let wanted = [common.in_both, covers, is_within, covers && is_within, share && !common.in_both, !share];
         assert_eq!(found, wanted.map(Ok), "{subject:?} {clip:?} {fill_rule}");
         decided += 1;
-        held = [0, 1, 2, 3].map(|relation| held[relation] + usize::from(wanted[relation]));
+        held = [0, 1, 2, 3, 4, 5].map(|relation| held[relation] + usize::from(wanted[relation]));
     }
     (decided, held)
 }
@@ -249,7 +290,7 @@ fn a_million_pairs() {
     });
     let decided: usize = found.iter().map(|(decided, _)| decided).sum();
     assert!(decided > 400_000, "{decided}");
-    for relation in 0..4 {
+    for relation in 0..6 {
         let held: usize = found.iter().map(|(_, held)| held[relation]).sum();
         assert!(held > 10_000 && held < decided - 10_000, "{relation}: {held} of {decided}");
     }

@@ -5,13 +5,24 @@ mod common;
 use common::Random;
 use fadrinzo::{square, Error, FillRule, FloatError, FloatOverlay, IntPoint, Overlay, OverlayRule, ShapeType};
 
-/// Whether interiors meet, the subject covers the clip, it is within the clip, and both are the same region.
-fn relations(overlay: &mut Overlay, fill_rule: FillRule) -> Result<[bool; 4], Error> {
+const CALLS: [fn(&mut Overlay, FillRule) -> Result<bool, Error>; 6] = [
+    Overlay::interiors_meet,
+    Overlay::covers,
+    Overlay::is_within,
+    Overlay::same_region,
+    Overlay::touches,
+    Overlay::is_disjoint,
+];
+
+/// Whether interiors meet, the subject covers the clip, it is within the clip, both are the same region, touch, and are disjoint.
+fn relations(overlay: &mut Overlay, fill_rule: FillRule) -> Result<[bool; 6], Error> {
     Ok([
         overlay.interiors_meet(fill_rule)?,
         overlay.covers(fill_rule)?,
         overlay.is_within(fill_rule)?,
         overlay.same_region(fill_rule)?,
+        overlay.touches(fill_rule)?,
+        overlay.is_disjoint(fill_rule)?,
     ])
 }
 
@@ -35,7 +46,7 @@ fn is_inside(fill_rule: FillRule, winding: i32) -> bool {
 #[test]
 fn relations_of_rectangles() {
     let mut random = Random(86);
-    let mut seen = [[0; 2]; 4];
+    let mut seen = [[0; 2]; 6];
     for _ in 0..2000 {
         let mut shapes = [Vec::new(), Vec::new()];
         for contours in &mut shapes {
@@ -55,11 +66,19 @@ fn relations_of_rectangles() {
             let inside = |contours: &[Vec<IntPoint>], x, y| is_inside(fill_rule, winding(contours, x, y));
             let squares = (0..8).flat_map(|x| (0..8).map(move |y| (x, y)));
             let kinds: Vec<_> = squares.map(|(x, y)| (inside(subject, x, y), inside(clip, x, y))).collect();
+            // a shape has the corners of its unit squares
+            let has = |contours: &[Vec<IntPoint>], x, y| {
+                [(0, 0), (1, 0), (0, 1), (1, 1)].iter().any(|(dx, dy)| inside(contours, x - dx, y - dy))
+            };
+            let share = (0..9).any(|x| (0..9).any(|y| has(subject, x, y) && has(clip, x, y)));
+            let meet = kinds.contains(&(true, true));
             let wanted = [
-                kinds.contains(&(true, true)),
+                meet,
                 !kinds.contains(&(false, true)),
                 !kinds.contains(&(true, false)),
                 kinds.iter().all(|(s, c)| s == c),
+                share && !meet,
+                !share,
             ];
             assert_eq!(relations(&mut overlay, fill_rule), Ok(wanted), "{shapes:?} {fill_rule}");
             for (counts, holds) in seen.iter_mut().zip(wanted) {
@@ -74,10 +93,14 @@ fn relations_of_rectangles() {
 #[test]
 fn nothing_is_rounded() {
     let below = [(0, 0), (10, 0), (10, 1)].map(IntPoint::from);
-    for (corner, meet) in [(11, true), (10, false), (9, false)] {
+    for (corner, meet, touch) in [(11, true, false), (10, false, true), (9, false, true)] {
         let above = [(0, 0), (corner, 1), (0, 1)].map(IntPoint::from);
         let mut overlay = Overlay::with_contours(&[below], &[above]).unwrap();
-        assert_eq!(relations(&mut overlay, FillRule::NonZero), Ok([meet, false, false, false]), "{corner}");
+        assert_eq!(
+            relations(&mut overlay, FillRule::NonZero),
+            Ok([meet, false, false, false, touch, false]),
+            "{corner}"
+        );
         // the overlay of both by `Intersect` rounds what they have in common away
         assert!(overlay.overlay(OverlayRule::Intersect, FillRule::NonZero).unwrap().is_empty());
     }
@@ -91,7 +114,7 @@ fn shapes_that_cross_themselves_are_named() {
         [(bow, square(0, 4), ShapeType::Subject), (square(0, 4), bow, ShapeType::Clip), (bow, bow, ShapeType::Subject)]
     {
         let mut overlay = Overlay::with_contours(&[subject], &[clip]).unwrap();
-        for call in [Overlay::interiors_meet, Overlay::covers, Overlay::is_within, Overlay::same_region] {
+        for call in CALLS {
             let refused = call(&mut overlay, FillRule::EvenOdd).unwrap_err();
             assert_eq!(refused, Error::NotExact(shape_type));
             assert!(refused.to_string().contains(&format!("two edges of the {shape_type} cross")));
@@ -109,4 +132,6 @@ fn shapes_that_cross_themselves_are_named() {
     assert_eq!(overlay.covers(FillRule::EvenOdd), refused);
     assert_eq!(overlay.is_within(FillRule::EvenOdd), refused);
     assert_eq!(overlay.same_region(FillRule::EvenOdd), refused);
+    assert_eq!(overlay.touches(FillRule::EvenOdd), refused);
+    assert_eq!(overlay.is_disjoint(FillRule::EvenOdd), refused);
 }

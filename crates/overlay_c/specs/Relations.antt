@@ -5,16 +5,17 @@ use Rattle.overlay_base.specs.declared.overlay_core.fill_rule.FillRule.{FillRule
 use Rattle.overlay_base.specs.declared.segm.fault.Fault.TheVariants.{Memory, CountOutOfRange}
 use Rattle.overlay_base.specs.declared.segm.shape_type.ShapeType.TheVariants.{Subject, Clip}
 use Rattle.overlay_contours.specs.declared.fault.ContourFault.TheVariants as contour
+use Rattle.overlay_relations.specs.Contacts as contacts
 use Rattle.overlay_relations.specs.Relations as relations
 use Rattle.overlay_relations.specs.Refusals.{IsNotExact, CountsOfShapesLeaveRange, IsReasonFor}
 use Rattle.overlay_relations.specs.declared.fault.RelationFault.{RelationFault}
 use Rattle.overlay_relations.specs.declared.fault.RelationFault.TheVariants.{NotExact, Refused}
 use Rattle.overlay_c.specs.declared.relations.Relation.{Relation}
-use Rattle.overlay_c.specs.declared.relations.Relation.TheVariants.{InteriorsMeet, Covers, IsWithin, SameRegion}
+use Rattle.overlay_c.specs.declared.relations.Relation.TheVariants.{InteriorsMeet, Covers, IsWithin, SameRegion, Touch, Disjoint}
 
 -- the relation of a code
 abbrev pub relation_of : ℕ → Relation
-relation_of code = if code == 0 then InteriorsMeet else if code == 1 then Covers else if code == 2 then IsWithin else SameRegion
+relation_of code = if code == 0 then InteriorsMeet else if code == 1 then Covers else if code == 2 then IsWithin else if code == 3 then SameRegion else if code == 4 then Touch else Disjoint
 
 -- the relation holds between a subject and a clip
 abbrev pub Holds : Relation → FillRule → List (List Point) → List (List Point) → Type 0
@@ -22,6 +23,8 @@ Holds InteriorsMeet fill_rule subject clip = relations.InteriorsMeet fill_rule f
 Holds Covers fill_rule subject clip = relations.Covers fill_rule fill_rule subject clip
 Holds IsWithin fill_rule subject clip = relations.IsWithin fill_rule fill_rule subject clip
 Holds SameRegion fill_rule subject clip = relations.AreSameRegion fill_rule fill_rule subject clip
+Holds Touch fill_rule subject clip = contacts.Touch fill_rule fill_rule subject clip
+Holds Disjoint fill_rule subject clip = contacts.AreDisjoint fill_rule fill_rule subject clip
 
 -- why it is not known whether a relation of shapes in range holds: the named shape has edges that cross at a point that is not
 -- whole, a growth was refused, or counts leave the range

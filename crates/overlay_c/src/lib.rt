@@ -510,10 +510,10 @@ pub extern "C" fn overlay_c_locate(
     location
 }
 
-/// Whether a relation holds between the subject and the clip that were added, exactly: nothing is rounded, and only points on
-/// no edge of either shape count. The relation is that of a code: 0 if some point is inside both, 1 if each point inside the
-/// clip is inside the subject, 2 if each point inside the subject is inside the clip, and else that both are the same region. Of
-/// the settings it takes the strategy and the fill rule.
+/// Whether a relation holds between the subject and the clip that were added, exactly: nothing is rounded. The relation is that
+/// of a code: 0 if some point is inside both, 1 if each point inside the clip is inside the subject, 2 if each point inside the
+/// subject is inside the clip, 3 if both are the same region, 4 if they share a point and no point is inside both, and else that
+/// they share no point. Points on edges count for 4 and 5 alone. Of the settings it takes the strategy and the fill rule.
 ///
 /// Returns 0 where `holds` says whether it does, 1 where memory was refused, 2 where a count left the range, 6 where two edges
 /// of the subject cross at a point without integer coordinates, and 7 where two edges of the clip do, and none of the subject.

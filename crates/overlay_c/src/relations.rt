@@ -9,6 +9,7 @@ use overlay_base::segm::fault::Fault;
 use overlay_base::segm::shape_type::ShapeType;
 use overlay_contours::fault::ContourFault;
 use overlay_contours::overlay::Overlay;
+use overlay_relations::contacts::{is_disjoint, touches};
 use overlay_relations::fault::RelationFault;
 use overlay_relations::predicates::{covers, interiors_meet, is_within, same_region};
 use std::alloc::Global;
@@ -24,6 +25,10 @@ pub enum Relation {
     IsWithin,
     /// Each point is inside both, or inside neither.
     SameRegion,
+    /// They share a point, and no point is inside both.
+    Touch,
+    /// They share no point, neither inside nor on their boundaries.
+    Disjoint,
 }
 
 /// The relation of a code.
@@ -34,7 +39,9 @@ pub fn named_relation(code: u8) -> Relation
         0 => Relation::InteriorsMeet,
         1 => Relation::Covers,
         2 => Relation::IsWithin,
-        _ => Relation::SameRegion,
+        3 => Relation::SameRegion,
+        4 => Relation::Touch,
+        _ => Relation::Disjoint,
     }
 }
 
@@ -56,6 +63,8 @@ pub fn holds(
         Relation::Covers => covers(alloc, subject, clip, solver, fill_rule),
         Relation::IsWithin => is_within(alloc, subject, clip, solver, fill_rule),
         Relation::SameRegion => same_region(alloc, subject, clip, solver, fill_rule),
+        Relation::Touch => touches(alloc, subject, clip, solver, fill_rule),
+        Relation::Disjoint => is_disjoint(alloc, subject, clip, solver, fill_rule),
     }
 }
 

@@ -21,8 +21,8 @@ use crate::inserts::Insert;
 use crate::lists::{Balance, Join, Snap, Sort, Split};
 use crate::sweeps::Sweep;
 use crate::wholes::{
-    Contours, KeptArrangement, KeptContours, KeptRules, KeptShapes, LineClip, Overlay, Relations,
-    Shapes, Sources,
+    Clipped, Contacts, Contours, KeptArrangement, KeptContours, KeptRules, KeptShapes, LineClip,
+    Overlay, Relations, Shapes, Sources,
 };
 use i_overlay::build::scan_list::ScanList;
 use i_overlay::build::scan_tree::ScanTree;
@@ -114,6 +114,8 @@ fn tell_contours(rt: HostRuntime) -> io::Result<()> {
 /// Makes the further calls over contours.
 fn tell_kept(rt: HostRuntime) -> io::Result<()> {
     tell(rt, "relations", "", Relations {})?;
+    tell(rt, "contacts", "", Contacts {})?;
+    tell(rt, "clip to a tile", "", Clipped {})?;
     tell(rt, "sources", "", Sources {})?;
     tell(rt, "two rules", KEPT, KeptRules::new(rt.alloc()))?;
     let arrangement = KeptArrangement::new(rt.alloc());

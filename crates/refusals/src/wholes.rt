@@ -4,6 +4,7 @@ use crate::graphs::{Builder, INSIDE, LineBuilder, summary_of};
 use crate::shapes::{CUT, NO_DATA, Shape, sides};
 use i_overlay::clip::split_and_build_clip;
 use i_overlay::geom::point::IntPoint;
+use i_overlay::geom::rect::IntRect;
 use i_overlay::overlay::split_and_build_overlay;
 use i_overlay::overlay_core::fill_rule::FillRule;
 use i_overlay::overlay_core::overlay_rule::OverlayRule;
@@ -15,7 +16,7 @@ use i_overlay::segm::shape_type::ShapeType;
 use i_overlay::segm::string::ShapeCountString;
 use i_overlay::split::solver::SplitSolver;
 use overlay_contours::arrangement::Arrangement;
-use overlay_contours::contour::{IntContour, IntShape};
+use overlay_contours::contour::{IntContour, IntShape, find_out_of_range};
 use overlay_contours::fault::ContourFault;
 use overlay_contours::overlay::{Overlay as ContourOverlay, overlay_contours, overlay_shapes};
 use overlay_contours::rounding::Rounding;
@@ -24,6 +25,9 @@ use overlay_contours::sources::{
 };
 use overlay_relations::fault::RelationFault;
 use overlay_relations::predicates::{covers, interiors_meet};
+use overlay_relations::region::Region;
+use overlay_tiles::clip::clip_to_tile;
+use overlay_tiles::tile::Tile;
 use std::alloc::Global;
 
 /// An overlay by one splitter and one builder. A refusal leaves the list empty, or the arrangement.
@@ -229,6 +233,54 @@ impl Case for Relations {
                 digest: 0,
             }),
             (Err(fault), _) | (_, Err(fault)) => Err(relation_stop(fault)),
+        }
+    }
+}
+
+/// Whether two regions touch, and whether they are disjoint: they have a corner in common.
+#[derive(Drop)]
+pub struct Contacts {}
+
+impl Case for Contacts {
+    fn try_once(&mut self, alloc: Global) -> Result<Summary, Stop> {
+        let (first, second) = (region(0, alloc)?, region(4, alloc)?);
+        let touch = first.touches(&second, &Solver::AUTO);
+        match (touch, first.is_disjoint(&second, &Solver::AUTO)) {
+            (Ok(touch), Ok(disjoint)) => Ok(Summary {
+                count: usize::from(touch),
+                others: u128::from(disjoint),
+                digest: 0,
+            }),
+            (Err(fault), _) | (_, Err(fault)) => Err(contour_stop(fault)),
+        }
+    }
+}
+
+/// The region of a square.
+fn region(low: i32, alloc: Global) -> Result<Region<i32>, Stop> {
+    let contours = vec![in alloc; square(low, alloc)?]?;
+    match Region::new(alloc, &contours, &Solver::AUTO, FillRule::NonZero) {
+        Ok(region) => Ok(region),
+        Err(fault) => Err(relation_stop(fault)),
+    }
+}
+
+/// A square clipped to a tile that has a corner of it.
+#[derive(Drop)]
+pub struct Clipped {}
+
+impl Case for Clipped {
+    fn try_once(&mut self, alloc: Global) -> Result<Summary, Stop> {
+        let contours = vec![in alloc; square(0, alloc)?]?;
+        let rect = IntRect {
+            min_x: 1,
+            max_x: 9,
+            min_y: 2,
+            max_y: 9,
+        };
+        match (Tile::new(rect), find_out_of_range(&contours)) {
+            (Ok(tile), None) => Ok(summary_of_contours(&clip_to_tile(alloc, &tile, &contours)?)),
+            _ => Err(Stop::Wrong("a rectangle is no tile")),
         }
     }
 }
