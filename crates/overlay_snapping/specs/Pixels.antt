@@ -27,9 +27,13 @@ extent v = unsigned_abs v.x + unsigned_abs v.y
 abbrev pub is_narrow : Point → ℤ → Bool
 is_narrow v t = nat_lt (2 * unsigned_abs t) (extent v) || (int_eq (pos 2 *ℤ t) (pos (extent v)) && int_lt v.y (pos 0))
 
+-- whether the line through s meets the pixel of c
+abbrev pub is_near_line : Pair → Point → Bool
+is_near_line s c = is_narrow (step s.a s.b) (turn s.a s.b c)
+
 -- The same by whole numbers, for a pair in order: c lies in the box of s, and the line through s meets the pixel.
 unfoldable pub meets_pixel : Pair → Point → Bool
-meets_pixel s c = is_in_box s c && is_narrow (step s.a s.b) (turn s.a s.b c)
+meets_pixel s c = is_in_box s c && is_near_line s c
 
 -- the places in a list of the points whose pixels s meets, by rising place
 unfoldable pub met_places : Pair → List Point → List ℕ

@@ -1,7 +1,7 @@
 -- Cells of a grid, and points in chains: the points of each slot are one chain, and cells share slots.
 use Rattle.std.specs.Int.{w64, cast_unsigned, int_wrapping_add, int_wrapping_mul, int_min, int_max}
 use Rattle.std.specs.Int.RustNames.{bit_and}
-use Rattle.std.specs.Prelude.{◌≡◌, ◌<◌, ◌≤◌, ◌&&◌, ◌+◌, ℕ, ℤ, pos, Bool, Some, List, int_le, int_lt, length, slice_get, slice_index_or}
+use Rattle.std.specs.Prelude.{◌≡◌, ◌<◌, ◌≤◌, ◌&&◌, ◌+◌, ◌*◌, ◌-ℤ◌, ℕ, ℤ, pos, unsigned_abs, Bool, Some, List, int_le, int_lt, length, slice_get, slice_index_or}
 use Rattle.overlay_geometry.specs.Points.{Point, Pair}
 use Rattle.overlay_snapping.specs.steps.PointTrees.{column_of}
 use Rattle.overlay_snapping.specs.declared.snap.cells.CellSize.{CellSize}
@@ -21,6 +21,10 @@ is_among first end z = int_le first z && int_lt z end
 -- whether the cell of p is one of these
 abbrev pub has_cell : CellBox → CellSize → Point → Bool
 has_cell cells size p = is_among cells.left cells.right (column_of size.width p.x) && is_among cells.bottom cells.top (column_of size.height p.y)
+
+-- how many cells there are
+abbrev pub cell_count : CellBox → ℕ
+cell_count cells = unsigned_abs (cells.right -ℤ cells.left) * unsigned_abs (cells.top -ℤ cells.bottom)
 
 -- the slot of the cell in a column and a row
 unfoldable pub slot_of : ℕ → ℤ → ℤ → ℕ

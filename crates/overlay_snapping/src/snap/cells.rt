@@ -1,11 +1,11 @@
 // Cells of a grid over the whole range, and those in the box of a segment. This project's own.
-ghost use Rattle.std.specs.Prelude.{◌≡◌, true, IsTrue};
+ghost use Rattle.std.specs.Prelude.{◌≡◌, true, nat_le, IsTrue};
 ghost use Rattle.overlay_geometry.specs.Points.{Point, is_in_box, is_ordered};
 ghost use Rattle.overlay_geometry.specs.PointOf.{point_of};
 ghost use Rattle.overlay_geometry.specs.PairOf.{pair_of};
 ghost use Rattle.overlay_geometry.specs.InRange.{IsPairInRange};
 ghost use Rattle.overlay_snapping.specs.steps.PointTrees.{column_of};
-ghost use Rattle.overlay_snapping.specs.steps.Cells.{has_cell, least_corner, greatest_corner};
+ghost use Rattle.overlay_snapping.specs.steps.Cells.{has_cell, cell_count, least_corner, greatest_corner};
 
 use overlay_base::segm::segment::Segment;
 use overlay_base::segm::winding::WindingCount;
@@ -97,10 +97,15 @@ impl CellBox {
     }
 
     /// Whether there are at most so many cells.
-    pub(crate) fn has_at_most(&self, most: u64) -> bool {
+    pub(crate) fn has_at_most(&self, most: u64) -> bool
+        ensures { result ≡ nat_le (cell_count self.now) most }
+    {
         let columns = self.right.abs_diff(self.left);
         let rows = self.top.abs_diff(self.bottom);
-        columns.saturating_mul(rows) <= most
+        match columns.checked_mul(rows) {
+            Some(cells) => cells <= most,
+            None => false,
+        }
     }
 }
 

@@ -41,7 +41,8 @@ pub(crate) struct Closure<I: OverlayInt> {
     met: Vec<IntPoint<I>>,
 }
 
-/// How many times as large as segments cells are where hot points are sought, as a power of two.
+/// How many times as large as segments cells are where hot points are sought, as a power of two. They are larger where there
+/// are fewer points than segments.
 const DOUBLED_FOR_HOT: u32 = 2;
 
 /// The same of cells where other points are sought: there are more of these.
@@ -116,7 +117,7 @@ impl<I: OverlayInt> Closure<I> {
             (map (point_of I.whole) given.now) (map (point_of I.whole) self.new.passed.items)) }
         ensures recorded { OnOk result (AreRecorded (pairs_in segments.now) (points_in hot.new) self.new.meetings) }
     {
-        hot.fill(found, size.doubled(DOUBLED_FOR_HOT))?;
+        fill_hot(found, segments.len(), size, hot)?;
         self.meetings.clear(segments.len())?;
         collect_movers(
             segments,
@@ -130,6 +131,26 @@ impl<I: OverlayInt> Closure<I> {
         collect_passed(segments, movers, others, &mut self.met, &mut self.near)?;
         collect_new(&self.near, found, &mut self.passed)
     }
+}
+
+/// Fills a finder with points, in larger cells the fewer they are beside the segments, unless that makes it crowded.
+fn fill_hot<I: OverlayInt>(
+    points: &[IntPoint<I>],
+    segments: usize,
+    size: CellSize,
+    hot: &mut PointFinder<I>,
+) -> Result<(), AllocError>
+    requires in_range { IsTrue (list_all (is_point_in_range (I.whole I.MIN_COORD) (I.whole I.MAX_COORD))
+        (map (point_of I.whole) points.now)) }
+    ensures same { OnOk result ((c : Point) → Contains (points_in hot.new) c ↔ Contains (map (point_of I.whole) points.now) c) }
+{
+    let size = size.doubled(DOUBLED_FOR_HOT);
+    let fewer = (segments / points.len().max(1)).max(1).ilog2() / 2;
+    hot.fill(points, size.doubled(fewer))?;
+    if fewer > 0 && hot.grid.is_crowded() {
+        return hot.fill(points, size);
+    }
+    Ok(())
 }
 
 /// The indices of the segments that pass by a point of a finder. What the first segments meet is recorded.

@@ -129,6 +129,7 @@ impl<I: OverlayInt> CutFinder<I> {
     /// it was given. The segment is cut at its marks that lie on it, and at each hot point whose pixel it meets.
     ///
     /// Returns `AllocError` where a growth is refused; some of the cuts may be appended then.
+    #[inline(always)]
     pub fn append_cuts<C: WindingCount, D: Copy>(
         &mut self,
         segments: &[Segment<C, I, D>],
@@ -154,6 +155,9 @@ impl<I: OverlayInt> CutFinder<I> {
             &mut self.hot,
             &mut self.between,
         )?;
+        if self.between.is_empty() {
+            return Ok(());
+        }
         self.between.sort()?;
         self.between.dedup();
         for point in &self.between {
@@ -188,6 +192,7 @@ fn collect_ends<C: WindingCount, I: OverlayInt, D: Copy>(
     ensures { OnOk result (map (point_of I.whole) points.new.items ≡ ends (pairs_in segments.now)) }
 {
     points.clear();
+    points.reserve(segments.len().saturating_mul(2))?;
     for segment in segments {
         let ends = segment.x_segment();
         points.push(ends.a)?;

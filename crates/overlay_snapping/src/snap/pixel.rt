@@ -7,7 +7,7 @@ ghost use Rattle.overlay_geometry.specs.PairOf.{pair_of};
 ghost use Rattle.overlay_geometry.specs.VectorOf.{vector_of};
 ghost use Rattle.overlay_geometry.specs.Coordinates.{greatest_product};
 ghost use Rattle.overlay_geometry.specs.InRange.{IsPointInRange, IsPairInRange};
-ghost use Rattle.overlay_snapping.specs.Pixels.{meets_pixel, is_narrow, extent};
+ghost use Rattle.overlay_snapping.specs.Pixels.{meets_pixel, is_near_line, is_narrow, extent};
 
 use overlay_geometry::geom::point::IntPoint;
 use overlay_geometry::geom::triangle::Triangle;
@@ -27,6 +27,16 @@ pub fn meets_pixel<I: OverlayInt>(segment: &XSegment<I>, point: IntPoint<I>) -> 
     let way = IntVector::between(segment.a, segment.b);
     let to = IntVector::between(segment.a, point);
     is_in_box(way, to) && is_narrow(way, to)
+}
+
+/// Whether the line through the segment meets the pixel of the given point. Segment and point have to be in range.
+pub(crate) fn is_near_line<I: OverlayInt>(segment: &XSegment<I>, point: IntPoint<I>) -> bool
+    requires in_range { IsPairInRange I.whole I.MIN_COORD I.MAX_COORD segment.now }
+    requires point { IsPointInRange I.whole I.MIN_COORD I.MAX_COORD point }
+    ensures { result ≡ is_near_line (pair_of I.whole segment.now) (point_of I.whole point) }
+{
+    let way = IntVector::between(segment.a, segment.b);
+    is_narrow(way, IntVector::between(segment.a, point))
 }
 
 /// Whether the point lies on the segment, ends included. Both have to be in range.

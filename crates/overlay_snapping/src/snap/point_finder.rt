@@ -1,6 +1,6 @@
-// The points of a set whose pixels a segment meets, found in a grid, or by a tree where the grid is crowded or the segment
-// long. This project's own.
-ghost use Rattle.std.specs.Prelude.{◌≡◌, ◌↔◌, [], true, map, Contains, OnOk, IsTrue};
+// The points of a set whose pixels a segment meets, found in a grid. Where it is crowded or the segment long, all points are
+// tested, and after some such searches a tree is filled. This project's own.
+ghost use Rattle.std.specs.Prelude.{◌≡◌, ◌↔◌, [], true, map, length, Contains, OnOk, IsTrue};
 ghost use Rattle.std.specs.List.{list_all};
 ghost use Rattle.overlay_geometry.specs.Points.{Point, is_ordered};
 ghost use Rattle.overlay_geometry.specs.PointOf.{point_of};
@@ -26,6 +26,8 @@ pub struct PointFinder<I: OverlayInt> {
     tree: PointTree<I>,
     /// Whether the tree has the points of the grid.
     has_tree: bool,
+    /// How many searches may test all points one by one before the tree is filled.
+    scans: u32,
     /// The places in the tree that were found last.
     places: Vec<usize>,
     ghost alike: { has_tree ≡ true → (c : Point) → is_listed (map (point_of I.whole) tree.points.items) c
@@ -36,7 +38,10 @@ pub struct PointFinder<I: OverlayInt> {
 const FEW_POINTS: usize = 8;
 
 /// The most cells that a search looks into.
-const MOST_CELLS: u64 = 64;
+const MOST_CELLS: u64 = 256;
+
+/// The most searches that test all points one by one: they take less time than the tree takes to be filled.
+const MOST_SCANS: u32 = 4;
 
 impl<I: OverlayInt> PointFinder<I> {
     ghost use Rattle.overlay_snapping.specs.PointFinderOf.{points_of, points_in};
@@ -49,6 +54,7 @@ impl<I: OverlayInt> PointFinder<I> {
             grid: PointGrid::new(alloc),
             tree: PointTree::new(alloc),
             has_tree: false,
+            scans: 0,
             places: Vec::new(alloc),
         }
     }
@@ -63,11 +69,14 @@ impl<I: OverlayInt> PointFinder<I> {
         ensures same { OnOk result ((c : Point) → Contains (points_in self.new) c ↔ Contains (map (point_of I.whole) points.now) c) }
     {
         self.has_tree = false;
+        self.scans = MOST_SCANS;
         self.grid.fill(points, size)
     }
 
-    /// How many points there are at most.
-    pub(crate) fn most(&self) -> usize {
+    /// How many points are kept, repeats included.
+    pub(crate) fn most(&self) -> usize
+        ensures { result ≡ length (points_of self.now) }
+    {
         self.grid.points().len()
     }
 
@@ -90,10 +99,24 @@ impl<I: OverlayInt> PointFinder<I> {
             return self.grid.append_each_met(segment, met);
         }
         let cells = CellBox::around(segment, self.grid.size());
-        if self.grid.is_crowded() || !cells.has_at_most(MOST_CELLS) {
-            return self.append_met_by_tree(segment, met);
+        if !self.grid.is_crowded() && cells.has_at_most(MOST_CELLS) {
+            return self.grid.append_met(segment, &cells, met);
         }
-        self.grid.append_met(segment, &cells, met)
+        if self.may_scan() {
+            return self.grid.append_each_met(segment, met);
+        }
+        self.append_met_by_tree(segment, met)
+    }
+
+    /// Whether the tree is not filled and need not be yet, so that a search may test all points. It counts as one then.
+    fn may_scan(&mut self) -> bool
+        ensures { points_of self.new ≡ points_of self.old }
+    {
+        if self.has_tree || self.scans == 0 {
+            return false;
+        }
+        self.scans -= 1;
+        true
     }
 
     /// As `append_met`, by the tree, which is filled first if it has to be.

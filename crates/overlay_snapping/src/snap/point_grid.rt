@@ -1,5 +1,5 @@
 // Points in the cells of a grid: it finds the points whose pixels a segment meets. This project's own.
-ghost use Rattle.std.specs.Prelude.{◌≡◌, ◌+◌, ◌<◌, ◌≤◌, ◌⊎◌, ◌↔◌, ◌++◌, ◌∷◌, [], false, true, map, length, List, Contains, OnOk, IfOk, IfSome, IsTrue, slice_index_or, slice_set};
+ghost use Rattle.std.specs.Prelude.{◌≡◌, ◌+◌, ◌<◌, ◌≤◌, ◌⊎◌, ◌↔◌, ◌++◌, ◌∷◌, ◌&&◌, [], false, true, int_le, map, length, List, Contains, OnOk, IfOk, IfSome, IsTrue, slice_index_or, slice_set};
 ghost use Rattle.std.specs.List.{list_all};
 ghost use Rattle.overlay_geometry.specs.Points.{Point, is_ordered, is_in_box, is_between};
 ghost use Rattle.overlay_geometry.specs.PointOf.{point_of};
@@ -11,7 +11,7 @@ ghost use Rattle.overlay_snapping.specs.steps.Cells.{slot_of, slot_at, has_cell,
 ghost use Rattle.overlay_snapping.specs.steps.Met.{is_met, AddsMet, AddsAllMet};
 
 use crate::snap::cells::{CellBox, CellSize};
-use crate::snap::pixel::{is_end, meets_pixel};
+use crate::snap::pixel::{is_end, is_near_line};
 use overlay_geometry::geom::point::IntPoint;
 use overlay_geometry::geom::x_segment::XSegment;
 use overlay_geometry::num::OverlayInt;
@@ -86,7 +86,7 @@ impl<I: OverlayInt> PointGrid<I> {
         self.points.as_slice()
     }
 
-    /// Whether the grid is a plain list, which `append_each_met` alone searches.
+    /// Whether the grid is a plain list: `append_met` cannot search it then.
     pub(crate) fn is_crowded(&self) -> bool
         ensures { result ≡ self.now.is_crowded }
     {
@@ -329,15 +329,24 @@ fn is_met<I: OverlayInt>(segment: &XSegment<I>, point: IntPoint<I>) -> bool
     requires point { IsPointInRange I.whole I.MIN_COORD I.MAX_COORD point }
     ensures { result ≡ is_met (pair_of I.whole segment.now) (point_of I.whole point) }
 {
-    is_in_box(segment, point) && !is_end(segment, point) && meets_pixel(segment, point)
+    is_in_box(segment, point) && !is_end(segment, point) && is_near_line(segment, point)
 }
 
-/// Whether a point lies in the box of a segment.
+/// Whether a point lies in the box of a segment whose ends are in order.
 #[inline(always)]
 fn is_in_box<I: OverlayInt>(segment: &XSegment<I>, point: IntPoint<I>) -> bool
+    requires ordered { IsTrue (is_ordered (pair_of I.whole segment.now)) }
     ensures { result ≡ is_in_box (pair_of I.whole segment.now) (point_of I.whole point) }
 {
-    is_between(segment.a.x, segment.b.x, point.x) && is_between(segment.a.y, segment.b.y, point.y)
+    is_from_to(segment.a.x, segment.b.x, point.x) && is_between(segment.a.y, segment.b.y, point.y)
+}
+
+/// Whether a number lies from one to another.
+#[inline(always)]
+fn is_from_to<I: OverlayInt>(least: I, greatest: I, number: I) -> bool
+    ensures { result ≡ (int_le (I.whole least) (I.whole number) && int_le (I.whole number) (I.whole greatest)) }
+{
+    least <= number && number <= greatest
 }
 
 /// Whether a number lies between two, in either order.

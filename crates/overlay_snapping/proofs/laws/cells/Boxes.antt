@@ -1,6 +1,6 @@
 -- The cells of the points in the box of a segment.
-use Rattle.std.proofs.Common.{◌≡◌, sym, subst, ℕ, ◌%◌, true, arith}
-use Rattle.std.specs.Prelude.{ℤ, pos, ◌≤ℤ◌, ◌<ℤ◌, ◌+ℤ◌}
+use Rattle.std.proofs.Common.{◌≡◌, sym, subst, ℕ, ◌%◌, true, ◌&&◌, arith}
+use Rattle.std.specs.Prelude.{ℤ, pos, int_le, ◌≤ℤ◌, ◌<ℤ◌, ◌+ℤ◌}
 use Rattle.std.specs.Int.{w64, int_min, int_max}
 use Rattle.std.specs.Int.RustNames.{FitsSigned}
 use Rattle.std.proofs.lemmas.Bool.{and_parts, and_from}
@@ -77,3 +77,7 @@ has_cell-from_box size cells s o l r b t p h =
     and_from (is_among cells.left cells.right (column_of size.width p.x)) (is_among cells.bottom cells.top (column_of size.height p.y))
     (among_from cells.left cells.right (column_of size.width p.x) (subst (λ z. z ≤ℤ column_of size.width p.x) (sym l) low) (within_next (column_of size.width p.x) (column_of size.width s.b.x) cells.right high r))
     (among_from cells.bottom cells.top (column_of size.height p.y) (subst (λ z. z ≤ℤ column_of size.height p.y) (sym b) below) (within_next (column_of size.height p.y) (column_of size.height (int_max s.a.y s.b.y)) cells.top above t))
+
+-- between the ends of an ordered pair, from left to right
+pub between_across : (s : Pair) → is_ordered s ≡ true → (x : ℤ) → (int_le s.a.x x && int_le x s.b.x) ≡ is_between s.a.x s.b.x x
+between_across s o x = let across = ordered_in_x s o in grind (arith, ints, across)

@@ -2,7 +2,7 @@
 use Rattle.std.proofs.Common.{◌≡◌, refl, Bool, true, false, not, ◌&&◌}
 use Rattle.std.proofs.lemmas.Bool.{and_parts}
 use Rattle.overlay_geometry.specs.Points.{Point, Pair, is_end, is_in_box}
-use Rattle.overlay_snapping.specs.Pixels.{meets_pixel}
+use Rattle.overlay_snapping.specs.Pixels.{meets_pixel, is_near_line}
 use Rattle.overlay_snapping.specs.steps.Met.{is_met}
 
 and_false : (b : Bool) → (b && false) ≡ false
@@ -18,6 +18,15 @@ outside_not_met s p e = rw e refl
 
 pub no_end_met : (s : Pair) (p : Point) → is_end s p ≡ false → is_met s p ≡ meets_pixel s p
 no_end_met s p e = rw e (and_true (meets_pixel s p))
+  where
+    and_true : (b : Bool) → (b && true) ≡ b
+    and_true true = refl
+    and_true false = refl
+
+-- in the box, all but the ends are met near whose pixels the line passes
+pub near_met : (s : Pair) (p : Point) → is_in_box s p ≡ true → is_end s p ≡ false → is_met s p ≡ is_near_line s p
+unfolding meets_pixel
+near_met s p e n = rw (n, e) (and_true (is_near_line s p))
   where
     and_true : (b : Bool) → (b && true) ≡ b
     and_true true = refl

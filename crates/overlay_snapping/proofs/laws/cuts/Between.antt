@@ -13,6 +13,7 @@ use Rattle.std.proofs.lemmas.List.Filters.{dedup_is}
 use Rattle.std.proofs.lemmas.List.Kept.{IsStrictlySortedBy-dedup}
 use Rattle.overlay_geometry.specs.Points.{Point, Pair, point_cmp, is_end, lies_on}
 use Rattle.overlay_geometry.specs.PointOf.{point_of}
+use Rattle.overlay_geometry.specs.Sorting.{is_strictly_sorted}
 use Rattle.overlay_geometry.specs.declared.geom.point.IntPoint.{IntPoint}
 use Rattle.overlay_geometry.proofs.laws.geometry.Points.{point_cmp_total}
 use Rattle.overlay_geometry.proofs.laws.lists.Lists.{Has-map, Has-map_out}
@@ -33,7 +34,7 @@ use Rattle.overlay_snapping.specs.HotOf.{AreHotPoints}
 use Rattle.overlay_snapping.specs.steps.Cutting.{points_along}
 use Rattle.overlay_snapping.specs.steps.Met.{AddsAllMet}
 use Rattle.overlay_snapping.proofs.laws.chains.HotCuts.{IsFoundCut, marked, met, found_is_cut, cut_is_found}
-use Rattle.overlay_snapping.proofs.laws.closure.Elements.{mapped}
+use Rattle.overlay_snapping.proofs.laws.closure.Elements.{mapped, no_element}
 use Rattle.overlay_snapping.proofs.laws.cuts.Collected.{Contains-collected, collected-Contains}
 use Rattle.overlay_snapping.proofs.laws.point_trees.Columns.{listed_same}
 use Rattle.overlay_snapping.proofs.laws.point_trees.MetPlaces.{taken_next}
@@ -101,6 +102,16 @@ module _ {I : Type 0} (eq : I → I → Bool) (cmp : I → I → Ordering) (whol
 
         back : (c : Point) → IsFoundCut segments s c → Contains (map (point_of whole) kept) c
         back c f = mapped (point_of whole) listed kept (λ q. (same q).1) c (listed_in whole segments points hot s own are (map (point_of whole) listed) all c f)
+
+    pub none_between : (listed : List (IntPoint I)) → AddsAllMet s points (points_along whole s own) (map (point_of whole) listed) → listed ≡ [] → AreCutsBetween (pairs segments) s []
+    unfolding is_strictly_sorted
+    none_between listed all e = record {
+      in_order = refl;
+      complete = λ c. (λ h. absurd (no_element c h), λ h. back c (cut_is_found segments ordered s i c h.0 h.1));
+    }
+      where
+        back : (c : Point) → IsFoundCut segments s c → Contains [] c
+        back c f = subst (λ (l : List (IntPoint I)). Contains (map (point_of whole) l) c) e (listed_in whole segments points hot s own are (map (point_of whole) listed) all c f)
 
 -- ---- as marks of code
 

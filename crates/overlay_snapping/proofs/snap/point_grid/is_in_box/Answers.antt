@@ -1,11 +1,21 @@
-use Rattle.std.proofs.Common.{refl}
-use Rattle.overlay_geometry.specs.Points.{is_in_box}
+use Rattle.std.proofs.Common.{◌≡◌, ◌∙◌, sym, refl, true, false}
+use Rattle.overlay_geometry.specs.Points.{is_in_box, is_between}
+use Rattle.overlay_geometry.specs.PairOf.{pair_of}
+use Rattle.overlay_snapping.proofs.laws.cells.Boxes.{between_across}
 use Rattle.overlay_snapping.proofs.snap.point_grid.is_in_box.Goals as goal
 
-pub returns-then-is_between : goal.returns-then-is_between
+pub returns-then-is_from_to : goal.returns-then-is_from_to
 unfolding is_in_box
-returns-then-is_between g c = rw (← c.is_between.ensures, c.if-is_between.true) c.is_between-then-is_between.ensures
+returns-then-is_from_to g c =
+    let whole = g.I.OverlayInt.whole in
+    let s = pair_of whole c.args.segment.now in
+    let across : is_between s.a.x s.b.x (whole c.args.point.x) ≡ true = sym (between_across s c.requires.ordered (whole c.args.point.x)) ∙ (sym c.is_from_to.ensures ∙ c.if-is_from_to.true) in
+    rw across c.is_between.ensures
 
-pub returns-else-is_between : goal.returns-else-is_between
+pub returns-else-is_from_to : goal.returns-else-is_from_to
 unfolding is_in_box
-returns-else-is_between g c = rw (← c.is_between.ensures, c.if-is_between.false) refl
+returns-else-is_from_to g c =
+    let whole = g.I.OverlayInt.whole in
+    let s = pair_of whole c.args.segment.now in
+    let across : is_between s.a.x s.b.x (whole c.args.point.x) ≡ false = sym (between_across s c.requires.ordered (whole c.args.point.x)) ∙ (sym c.is_from_to.ensures ∙ c.if-is_from_to.false) in
+    rw across c.if-is_from_to.false

@@ -14,8 +14,8 @@ use Rattle.overlay_snapping.proofs.laws.closure.Movers.{movers_over, movers_with
 use Rattle.overlay_snapping.proofs.laws.cuts.Reads.{pairs_long}
 use Rattle.overlay_snapping.proofs.snap.closure.Closure.find_passed.Goals as goal
 
-pub fill-requires : goal.fill-requires
-fill-requires g c =
+pub fill_hot-requires : goal.fill_hot-requires
+fill_hot-requires g c =
     let whole = g.I.OverlayInt.whole in
     record {
       in_range = subst (λ (l : List (IntPoint _)). list_all (is_point_in_range (whole g.I.OverlayInt.MIN_COORD) (whole g.I.OverlayInt.MAX_COORD)) (map (point_of whole) l) ≡ true) (sym c.deref.ensures.value) c.requires.points;
@@ -25,7 +25,7 @@ pub collect_passed-requires-clause-within : goal.collect_passed-requires-clause-
 collect_passed-requires-clause-within g c =
     let segments = c.args.segments.now in
     subst (λ (l : List ℕ). All (λ i. i < length segments) l) (sym c.as_slice-movers.ensures.value)
-    (movers_within (pairs_in segments) (points_in c.fill.new.self) c.collect_movers.new.movers.items (length segments) (pairs_long segments) c.in_ok-collect_movers.ensures.movers)
+    (movers_within (pairs_in segments) (points_in c.fill_hot.new.hot) c.collect_movers.new.movers.items (length segments) (pairs_long segments) c.in_ok-collect_movers.ensures.movers)
 
 pub returns-clause-same : goal.returns-clause-same
 returns-clause-same g c = on_ok_weaker c.collect_new.result (λ h. c.collect_new.ensures.same) c.collect_new.ensures.left
@@ -35,8 +35,8 @@ returns-clause-hot g c =
     let whole = g.I.OverlayInt.whole in
     let old = map (point_of whole) c.args.found.now.items in
     let new = map (point_of whole) c.collect_new.new.found.items in
-    let filled : (q : Point) → Contains (points_in c.fill.new.self) q ↔ Contains old q =
-    subst (λ (l : List (IntPoint _)). (q : Point) → Contains (points_in c.fill.new.self) q ↔ Contains (map (point_of whole) l) q) c.deref.ensures.value c.in_ok-fill.ensures.same in
+    let filled : (q : Point) → Contains (points_in c.fill_hot.new.hot) q ↔ Contains old q =
+    subst (λ (l : List (IntPoint _)). (q : Point) → Contains (points_in c.fill_hot.new.hot) q ↔ Contains (map (point_of whole) l) q) c.deref.ensures.value c.in_ok-fill_hot.ensures.same in
     let kept : (q : Point) → Contains (points_in c.collect_movers.new.hot) q ↔ Contains old q =
     subst (λ (l : List (IntPoint _)). (q : Point) → Contains (map (point_of whole) l) q ↔ Contains old q) (sym c.collect_movers.ensures.same) filled in
     on_ok_weaker c.collect_new.result
@@ -50,17 +50,17 @@ returns-clause-passed g c =
     let old = map (point_of whole) c.args.found.now.items in
     let new = map (point_of whole) c.collect_new.new.found.items in
     let given = map (point_of whole) c.args.given.now in
-    let others = points_in c.fill-2.new.self in
+    let others = points_in c.fill.new.self in
     let slice = c.as_slice-movers.result.now in
     let movers = c.collect_movers.new.movers.items in
     let near = map (point_of whole) c.collect_passed.new.passed.items in
     let passed = map (point_of whole) c.collect_new.new.new.items in
-    let hot : (q : Point) → Contains (points_in c.fill.new.self) q ↔ Contains old q =
-    subst (λ (l : List (IntPoint _)). (q : Point) → Contains (points_in c.fill.new.self) q ↔ Contains (map (point_of whole) l) q) c.deref.ensures.value c.in_ok-fill.ensures.same in
-    let are = subst (λ (l : List ℕ). AreMovers segments old l) (sym c.as_slice-movers.ensures.value) (movers_over segments (points_in c.fill.new.self) old movers hot c.in_ok-collect_movers.ensures.movers) in
+    let hot : (q : Point) → Contains (points_in c.fill_hot.new.hot) q ↔ Contains old q =
+    subst (λ (l : List (IntPoint _)). (q : Point) → Contains (points_in c.fill_hot.new.hot) q ↔ Contains (map (point_of whole) l) q) c.deref.ensures.value c.in_ok-fill_hot.ensures.same in
+    let are = subst (λ (l : List ℕ). AreMovers segments old l) (sym c.as_slice-movers.ensures.value) (movers_over segments (points_in c.fill_hot.new.hot) old movers hot c.in_ok-collect_movers.ensures.movers) in
     on_ok_weaker c.collect_new.result
     (λ h. passed_over segments old new given passed (λ q. ((c.collect_new.ensures.same q).1, (c.collect_new.ensures.same q).0))
-    (passed_all segments old given others slice near passed are c.in_ok-fill-2.ensures.same c.in_ok-collect_passed.ensures (subst (λ (l : List (IntPoint _)). AreLeft old (map (point_of whole) l) passed) c.deref-2.ensures.value h)))
+    (passed_all segments old given others slice near passed are c.in_ok-fill.ensures.same c.in_ok-collect_passed.ensures (subst (λ (l : List (IntPoint _)). AreLeft old (map (point_of whole) l) passed) c.deref-2.ensures.value h)))
     c.collect_new.ensures.left
 
 pub returns-clause-recorded : goal.returns-clause-recorded

@@ -11,8 +11,8 @@ use Rattle.overlay_snapping.proofs.laws.cells.Added.{adds_fewer}
 use Rattle.overlay_snapping.proofs.laws.cells.NotMet.{met_in_box}
 use Rattle.overlay_snapping.proofs.snap.point_finder.PointFinder.append_met.Goals as goal
 
-pub returns-clause-met : goal.returns-clause-met
-returns-clause-met g c =
+pub returns-then-has_at_most-clause-met : goal.returns-then-has_at_most-clause-met
+returns-then-has_at_most-clause-met g c =
     let whole = g.I.OverlayInt.whole in
     let s = pair_of whole c.args.segment.now in
     let points = points_in c.args.self.now in
