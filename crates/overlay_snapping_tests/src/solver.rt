@@ -13,6 +13,7 @@ mod by_definition;
 mod growing;
 mod nested;
 mod random;
+mod searches;
 
 type Counted<I> = Segment<ShapeCountBoolean, I, ()>;
 

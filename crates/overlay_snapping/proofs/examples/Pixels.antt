@@ -4,7 +4,7 @@ use Rattle.std.specs.Prelude.{◌≡◌, refl, pos, true, false, List, Bool, [],
 use Rattle.std.proofs.lemmas.Int.{ints}
 use Rattle.overlay_geometry.specs.Points.{Point, Pair}
 use Rattle.overlay_base.proofs.examples.Words.{neg, point, pair}
-use Rattle.overlay_snapping.specs.Pixels.{MeetsPixel, meets_pixel}
+use Rattle.overlay_snapping.specs.Pixels.{MeetsPixel, meets_pixel, is_near_line}
 use Rattle.overlay_snapping.proofs.examples.Computing.{computing}
 
 abbrev met_by : Pair → List Point → List Bool
@@ -50,6 +50,11 @@ crosses_border = refl
 ends_stop : met_by (pair (pos 0) (pos 0) (pos 2) (pos 1)) (point (neg 1) (pos 0) ∷ point (pos 3) (pos 1) ∷ []) ≡ (false ∷ false ∷ [])
 unfolding computing
 ends_stop = refl
+
+-- the line is near both of them
+line_goes_on : map (λ c. is_near_line (pair (pos 0) (pos 0) (pos 2) (pos 1)) c) (point (neg 1) (pos 0) ∷ point (pos 3) (pos 1) ∷ point (pos 4) (pos 0) ∷ []) ≡ (true ∷ true ∷ false ∷ [])
+unfolding computing
+line_goes_on = refl
 
 -- a segment through the pixel of another's end, (3, 1), which does not lie on it
 passes_end : met_by (pair (pos 0) (pos 0) (pos 7) (pos 2)) (point (pos 3) (pos 1) ∷ point (pos 3) (pos 0) ∷ point (pos 3) (pos 2) ∷ []) ≡ (true ∷ false ∷ false ∷ [])

@@ -129,7 +129,6 @@ impl<I: OverlayInt> CutFinder<I> {
     /// it was given. The segment is cut at its marks that lie on it, and at each hot point whose pixel it meets.
     ///
     /// Returns `AllocError` where a growth is refused; some of the cuts may be appended then.
-    #[inline(always)]
     pub fn append_cuts<C: WindingCount, D: Copy>(
         &mut self,
         segments: &[Segment<C, I, D>],

@@ -77,7 +77,7 @@ impl<I: OverlayInt> PointFinder<I> {
     pub(crate) fn most(&self) -> usize
         ensures { result ≡ length (points_of self.now) }
     {
-        self.grid.points().len()
+        self.grid.points.len()
     }
 
     /// Appends the points whose pixels the segment meets, but for its ends, in any order and maybe with repeats.

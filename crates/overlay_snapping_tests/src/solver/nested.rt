@@ -60,7 +60,7 @@ fn squares(rt: &(impl Abort + AllocGlobal), place: Place, alternates: bool) -> V
 }
 
 /// Splits rows, and wants what the definition says, and that far crossings moved.
-fn check(rt: &(impl Abort + AllocGlobal), given: &[Row], reach: u128) {
+pub(super) fn check(rt: &(impl Abort + AllocGlobal), given: &[Row], reach: u128) {
     let mut splitter: SnapSolver<i32> = SnapSolver::new(rt.alloc());
     let (flag, rows) = snap(rt, &mut splitter, given, Strategy::Auto);
     assert!(rt; flag);
