@@ -1,6 +1,9 @@
 pub mod FarRegions
 pub mod LinesAlong
 pub mod BesideLines
+pub mod SnapCuts
+pub mod SnapLines
+pub mod Splits
 pub mod Overlays
 pub mod NamedLinks
 pub mod GivenAgain

@@ -1,9 +1,12 @@
+pub mod Courses
 pub mod FarRegions
 pub mod LinesAlong
 pub mod BesideLines
 pub mod Headline
+pub mod SplitLists
 pub mod CallOf
 pub mod GivenAgain
+pub mod SplitterOf
 -- what the clauses of the crate cite of the crates below
 pub use Rattle.overlay_geometry.specs.Below
 pub use Rattle.overlay_geometry.specs.Coordinates
@@ -51,6 +54,11 @@ pub use Rattle.overlay_split.specs.RunLooks
 pub use Rattle.overlay_split.specs.SettingsOf
 pub use Rattle.overlay_split.specs.SplitFaultOf
 pub use Rattle.overlay_split.specs.SplitOf
+pub use Rattle.overlay_snapping.specs.Chains
+pub use Rattle.overlay_snapping.specs.Counts
+pub use Rattle.overlay_snapping.specs.Pixels
+pub use Rattle.overlay_snapping.specs.SnapOf
+pub use Rattle.overlay_snapping.specs.SolverOf
 pub use Rattle.overlay_sweep.specs.ChainWindings
 pub use Rattle.overlay_sweep.specs.ColumnWindings
 pub use Rattle.overlay_sweep.specs.Costs
@@ -69,6 +77,7 @@ pub use Rattle.overlay_build.specs.ShapedBoundary
 pub use Rattle.overlay_build.specs.Sides
 pub use Rattle.overlay_build.specs.StringGraphOf
 pub use Rattle.overlay_build.specs.Values
+pub use Rattle.overlay_contours.specs.Splittings
 -- and the types of code that these speak of
 pub use Rattle.overlay_base.specs.declared.overlay_core.clip_rule.ClipRule
 pub use Rattle.overlay_base.specs.declared.overlay_core.fill_rule.FillRule
@@ -82,5 +91,8 @@ pub use Rattle.overlay_base.specs.declared.segm.fault.Fault
 pub use Rattle.overlay_base.specs.declared.segm.segment.Segment
 pub use Rattle.overlay_base.specs.declared.segm.shape_type.ShapeType
 pub use Rattle.overlay_split.specs.declared.split.solver.SplitSolver
+pub use Rattle.overlay_contours.specs.declared.rounding.Rounding
+pub use Rattle.overlay_contours.specs.declared.rounding.Rounding.TheVariants as Roundings
+pub use Rattle.overlay_snapping.specs.declared.snap.solver.SnapSolver
 pub use Rattle.overlay_build.specs.declared.build.graph.OverlayGraph
 pub use Rattle.overlay_build.specs.declared.build.string_graph.StringGraph

@@ -3,13 +3,14 @@
 ghost use Rattle.std.specs.Prelude.{◌≡◌, IsFalse, OnOk, IfOk, IfErr};
 ghost use Rattle.overlay_base.specs.ArrangedOf.{IsSplittable, IsArranged};
 ghost use Rattle.overlay_base.specs.SegmentOf.{segments_of, KeepsSegments};
-ghost use Rattle.overlay_split.specs.SettingsOf.{snap_limit_of};
+ghost use Rattle.overlay_split.specs.SettingsOf.{snap_limit_of, passes_of};
 ghost use Rattle.overlay_sweep.specs.ChainWindings.{tops_leave_range};
 ghost use Rattle.overlay_build.specs.StringGraphOf.{builder_name, lines_asked, HasItsNodes};
 ghost use Rattle.overlay_split.specs.SplitOf.{SumsLeaveRange, ReportsReach, LooksAreBounded};
 ghost use Rattle.overlay_sweep.specs.SweepOf.{IsCostOf};
-ghost use Rattle.i_overlay.specs.CallOf.{ClipsLines, RefusesCall};
+ghost use Rattle.i_overlay.specs.CallOf.{course_of, ClipsLines, RefusesCall};
 
+pub use crate::clip_by::split_and_build_clip_by;
 use overlay_base::overlay_core::clip_rule::ClipRule;
 use overlay_base::overlay_core::fill_rule::FillRule;
 use overlay_base::overlay_core::solver::Solver;
@@ -56,15 +57,16 @@ pub fn split_and_build_clip<'a, I: OverlayInt>(
     clip_rule: ClipRule,
 ) -> Result<StringGraph<'a, I>, Fault>
     requires { IsSplittable segments.old.items }
-    ensures clip { ClipsLines solver.now splitter.old splitter.new segments.old segments.new fill_rule clip_rule
-        result }
+    ensures clip { ClipsLines (course_of solver.now splitter.old splitter.new segments.old) segments.old segments.new
+        fill_rule clip_rule result }
     ensures graph { IfOk result (λ graph. HasItsNodes graph) }
     ensures arranged { IsArranged segments.new.items }
     ensures unchanged { IsArranged segments.old.items → OnOk result (KeepsSegments segments.old segments.new) }
 
     ensures fits { OnOk result (SumsLeaveRange solver.now splitter.old segments.old → ⊥) }
     ensures in_range { OnOk result (IsFalse (tops_leave_range (segments_of segments.new.items))) }
-    ensures refused { IfErr result (RefusesCall solver.now splitter.old splitter.new segments.old segments.new) }
+    ensures refused { IfErr result (RefusesCall (course_of solver.now splitter.old splitter.new segments.old)
+        (passes_of splitter.old) segments.old segments.new) }
     ensures reach { OnOk result (ReportsReach solver.now splitter.old splitter.new segments.old) }
     ensures looked { OnOk result (LooksAreBounded solver.now splitter.old splitter.new segments.old) }
     ensures limit { snap_limit_of splitter.new ≡ snap_limit_of splitter.old }

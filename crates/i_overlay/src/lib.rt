@@ -6,9 +6,12 @@ pub use overlay_base::{geom, num};
 
 pub mod build;
 pub mod clip;
+mod clip_by;
 pub mod overlay;
+mod overlay_by;
 pub mod overlay_core;
 pub mod prelude;
 pub mod segm;
 pub mod split;
+pub mod splitter;
 pub mod string;

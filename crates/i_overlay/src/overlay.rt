@@ -3,14 +3,16 @@ ghost use Rattle.std.specs.Prelude.{◌≡◌, IsFalse, OnOk, IfOk, IfErr};
 ghost use Rattle.overlay_base.specs.Rules.{holds, keeps_fill};
 ghost use Rattle.overlay_base.specs.ArrangedOf.{IsSplittable, IsArranged};
 ghost use Rattle.overlay_base.specs.SegmentOf.{segments_of, KeepsSegments};
-ghost use Rattle.overlay_split.specs.SettingsOf.{snap_limit_of};
+ghost use Rattle.overlay_split.specs.SettingsOf.{snap_limit_of, passes_of};
 ghost use Rattle.overlay_sweep.specs.ChainWindings.{tops_leave_range};
 ghost use Rattle.overlay_build.specs.OverlayGraphOf.{graph_asked, HasItsNodes, HasDataBy};
 ghost use Rattle.i_overlay.specs.GivenAgain.{ResultsAreGivenAgain};
 ghost use Rattle.overlay_split.specs.SplitOf.{SumsLeaveRange, ReportsReach, LooksAreBounded};
 ghost use Rattle.overlay_sweep.specs.SweepOf.{IsCostOf};
-ghost use Rattle.i_overlay.specs.CallOf.{ReturnsOverlay, EnclosesByRule, LinksKeepWhatHolds, LinksLieNearNamed, IsEmptyOrData, RefusesCall};
+ghost use Rattle.i_overlay.specs.CallOf.{course_of, ReturnsOverlay, EnclosesByRule, LinksKeepWhatHolds, LinksLieNearNamed, RefusesCall};
+ghost use Rattle.i_overlay.specs.SplitLists.{IsEmptyOrData};
 
+pub use crate::overlay_by::split_and_build_overlay_by;
 use overlay_base::overlay_core::edge_data::OverlayEdgeData;
 use overlay_base::overlay_core::fill_rule::FillRule;
 use overlay_base::overlay_core::overlay_rule::OverlayRule;
@@ -63,22 +65,24 @@ pub fn split_and_build_overlay<'a, I: OverlayInt, D: OverlayEdgeData<ShapeCountB
     overlay_rule: OverlayRule,
 ) -> Result<OverlayGraph<'a, I, D>, Fault>
     requires { IsSplittable segments.old.items }
-    ensures overlay { ReturnsOverlay solver.now splitter.old splitter.new segments.old segments.new fill_rule
-        overlay_rule result }
-    ensures region { EnclosesByRule solver.now splitter.old splitter.new segments.old fill_rule overlay_rule result }
+    ensures overlay { ReturnsOverlay (course_of solver.now splitter.old splitter.new segments.old) segments.old
+        segments.new fill_rule overlay_rule result }
+    ensures region { EnclosesByRule (course_of solver.now splitter.old splitter.new segments.old) segments.old
+        fill_rule overlay_rule result }
     ensures graph { IfOk result (λ graph. HasItsNodes graph) }
     ensures edge_data { IfOk result (HasDataBy (keeps_fill (holds overlay_rule)) fill_rule segments.new.items) }
     ensures kept_data { LinksKeepWhatHolds D.OverlayEdgeData.own segments.old result }
-    ensures named_data { LinksLieNearNamed D.OverlayEdgeData.own solver.now splitter.old splitter.new segments.old
-        result }
+    ensures named_data { LinksLieNearNamed D.OverlayEdgeData.own
+        (course_of solver.now splitter.old splitter.new segments.old) segments.old result }
     ensures arranged { IsArranged segments.new.items }
-    ensures list_data { IsEmptyOrData D.OverlayEdgeData.own D.Store.is_default solver.now splitter.old splitter.new
-        segments.old segments.new }
+    ensures list_data { IsEmptyOrData D.OverlayEdgeData.own D.Store.is_default
+        (course_of solver.now splitter.old splitter.new segments.old) segments.old segments.new }
     ensures unchanged { IsArranged segments.old.items → OnOk result (KeepsSegments segments.old segments.new) }
 
     ensures fits { OnOk result (SumsLeaveRange solver.now splitter.old segments.old → ⊥) }
     ensures in_range { OnOk result (IsFalse (tops_leave_range (segments_of segments.new.items))) }
-    ensures refused { IfErr result (RefusesCall solver.now splitter.old splitter.new segments.old segments.new) }
+    ensures refused { IfErr result (RefusesCall (course_of solver.now splitter.old splitter.new segments.old)
+        (passes_of splitter.old) segments.old segments.new) }
     ensures reach { OnOk result (ReportsReach solver.now splitter.old splitter.new segments.old) }
     ensures looked { OnOk result (LooksAreBounded solver.now splitter.old splitter.new segments.old) }
     ensures limit { snap_limit_of splitter.new ≡ snap_limit_of splitter.old }
@@ -91,7 +95,7 @@ pub fn split_and_build_overlay<'a, I: OverlayInt, D: OverlayEdgeData<ShapeCountB
 /// A result can be given again. Where the given counts balance, the links of an overlay's graph,
 /// each in its direction, as segments of one shape (`directed_segments`) are a planar arrangement
 /// in range, balanced, and wind around the rule's region for that shape alone; at every place that
-/// is farther from the given segments than the passes move crossings, around the region by how
+/// is farther from the given segments than the split moves crossings, around the region by how
 /// these wind.
 pub fn result_laws()
     ensures { ResultsAreGivenAgain }

@@ -1,7 +1,8 @@
 // What a program that makes overlays names, in one place.
 
-pub use crate::clip::split_and_build_clip;
-pub use crate::overlay::split_and_build_overlay;
+pub use crate::clip::{split_and_build_clip, split_and_build_clip_by};
+pub use crate::overlay::{split_and_build_overlay, split_and_build_overlay_by};
+pub use crate::splitter::Splitter;
 pub use overlay_base::overlay_core::clip_rule::ClipRule;
 pub use overlay_base::overlay_core::fill_rule::FillRule;
 pub use overlay_base::overlay_core::overlay_rule::OverlayRule;
@@ -38,5 +39,6 @@ pub use overlay_contours::sources::{
 pub use overlay_geometry::geom::point::IntPoint;
 pub use overlay_geometry::geom::rect::IntRect;
 pub use overlay_geometry::num::OverlayInt;
+pub use overlay_snapping::snap::solver::SnapSolver;
 pub use overlay_split::split::fault::SplitFault;
 pub use overlay_split::split::solver::SplitSolver;

@@ -10,17 +10,15 @@ use Rattle.overlay_base.specs.Balance.{IsBalanced}
 use Rattle.overlay_base.specs.Places.{winding_below}
 use Rattle.overlay_base.specs.declared.overlay_core.clip_rule.ClipRule.{ClipRule}
 use Rattle.overlay_base.specs.declared.overlay_core.fill_rule.FillRule.{FillRule}
-use Rattle.overlay_split.specs.Places.{KeepsWindingNearLines}
-use Rattle.overlay_split.specs.Run.{Settings}
 use Rattle.overlay_build.specs.Beside.{is_on_top_of, is_at_bottom_of, TellsPlaces}
 use Rattle.overlay_build.specs.Lines.{keeps_between, is_kept_part}
 use Rattle.overlay_build.proofs.laws.regions.BesideUprights.{sides_tell_places}
-use Rattle.i_overlay.specs.BesideLines.{KeepsByGiven}
+use Rattle.i_overlay.specs.BesideLines.{WindsBeyondPolygons, KeepsBeyondPolygons}
 
-pub keeps_by_given : (settings : Settings) (rule : ClipRule) (fill_rule : FillRule) (given segments : List WholeSegment) (passes : ℕ) → IsTrue (is_map segments && is_planar segments) → IsBalanced segments → KeepsWindingNearLines settings given segments passes →
-    KeepsByGiven settings rule fill_rule given segments passes
+pub keeps_beyond_polygons : (halves : ℕ) (rule : ClipRule) (fill_rule : FillRule) (given segments : List WholeSegment) → IsTrue (is_map segments && is_planar segments) → IsBalanced segments → WindsBeyondPolygons halves given segments →
+    KeepsBeyondPolygons halves rule fill_rule given segments
 unfolding is_kept_part
-keeps_by_given settings rule fill_rule given segments passes planar balanced near p q some_p some_q far_p far_q =
+keeps_beyond_polygons halves rule fill_rule given segments planar balanced near p q some_p some_q far_p far_q =
     let parts = and_parts (is_map segments) (is_planar segments) planar in
     All-weaker (TellsPlaces segments)
     (λ s. IsTrue (is_on_top_of segments s.pair p) → IsTrue (is_at_bottom_of segments s.pair q) →

@@ -8,8 +8,8 @@ use Rattle.overlay_build.proofs.laws.regions.Again.{shapes_wind_alike, boundarie
 use Rattle.i_overlay.specs.GivenAgain.{ResultsAreGivenAgain}
 
 pub results_are_given_again : ResultsAreGivenAgain
-results_are_given_again least greatest settings shape fill_rule rule given segments passes graph overlay arranged polygons balanced = (
+results_are_given_again least greatest course shape fill_rule rule given segments graph overlay arranged polygons balanced = (
   subst (λ (k : Graph). BoundsAsShape least greatest shape rule fill_rule segments (in_shape shape (directed_links rule k))) (sym overlay.links)
-      (boundaries_are_shapes least greatest shape fill_rule rule segments arranged polygons (λ p. overlay.split.kept p ∙ balanced p)),
+      (boundaries_are_shapes least greatest shape fill_rule rule segments arranged polygons (λ p. overlay.split.arrangement.kept p ∙ balanced p)),
   λ p some far. shapes_wind_alike shape (directed_links rule graph) p ∙ ap (λ (w : Winding). of_shape shape w.subj) (overlay.far_boundary balanced p some far),
 )

@@ -9,6 +9,7 @@ use Rattle.overlay_split.specs.SettingsOf.{passes_of, settings_of}
 use Rattle.overlay_build.specs.Graph.{graph_by, data_by}
 use Rattle.overlay_build.specs.GraphOf.{HoldGraph, graph_with}
 use Rattle.overlay_build.specs.NodeIndexes.{indexes_of, is_canonical_node}
+use Rattle.i_overlay.specs.Courses.{course_of_passes}
 use Rattle.i_overlay.specs.FarRegions.{EnclosesOverlay}
 use Rattle.i_overlay.specs.Headline.{IsSplit, IsOverlay, LinksNameNear}
 use Rattle.overlay_split.proofs.laws.passes.DataInvariants.{data_keeps_what_hooks_keep}
@@ -19,7 +20,8 @@ use Rattle.overlay_build.proofs.laws.graphs.BuiltGraphs.{graph_with_kept}
 use Rattle.overlay_contours.proofs.laws.NamedLinks.{IfOk-both}
 use Rattle.i_overlay.proofs.laws.NamedLinks.{links_name_near}
 use Rattle.i_overlay.proofs.laws.FarRegions.{overlay_region}
-use Rattle.i_overlay.proofs.laws.Overlays.{data_of_links, none_arranged, split_from, overlay_from, refused_build}
+use Rattle.i_overlay.proofs.laws.Splits.{split_from}
+use Rattle.i_overlay.proofs.laws.Overlays.{data_of_links, none_arranged, overlay_from, refused_build}
 use Rattle.i_overlay.proofs.overlay.split_and_build_overlay.Goals as goal
 
 pub returns-in_err-split_segments-clause-arranged : goal.returns-in_err-split_segments-clause-arranged
@@ -34,12 +36,12 @@ returns-clause-overlay g c =
     let given : List WholeSegment = segments_of c.args.segments.now.items in
     let segments : List WholeSegment = segments_of c.split_segments.new.list.items in
     let passes : ℕ = passes_of c.split_segments.new.self in
-    let split : IsSplit settings given segments passes = split_from _ _ _ _ _ _ _ e.run e.arranged e.balance e.in_box e.near e.winding e.exact_input e.bound in
+    let split : IsSplit settings given segments passes = split_from _ _ _ _ _ _ _ _ e.run e.arranged e.balance e.in_box e.near e.winding e.exact_input e.bound e.reach e.exact_reach in
     let balanced = rw c.deref.ensures.value at c.build_boolean_overlay.ensures.balanced in
     IfOk-weaker c.build_boolean_overlay.result
     (λ built. HoldGraph indexes_of is_canonical_node whole built.nodes.now built.links.now (graph_by keeps c.args.fill_rule segments))
     (λ built. IsOverlay settings c.args.fill_rule (holds c.args.overlay_rule) given segments passes (graph_with whole built.links.now))
-    (λ built h. overlay_from settings c.args.fill_rule (holds c.args.overlay_rule) given segments passes _ split (graph_with_kept indexes_of is_canonical_node whole built.nodes.now built.links.now keeps c.args.fill_rule segments h) balanced)
+    (λ built h. overlay_from (course_of_passes settings given passes) c.args.fill_rule (holds c.args.overlay_rule) given segments _ split (graph_with_kept indexes_of is_canonical_node whole built.nodes.now built.links.now keeps c.args.fill_rule segments h) balanced)
     (rw c.deref.ensures.value at c.build_boolean_overlay.ensures.graph)
 
 pub returns-clause-region : goal.returns-clause-region
@@ -52,7 +54,7 @@ returns-clause-region g c = λ balance.
     IfOk-weaker c.build_boolean_overlay.result
     (λ built. IsOverlay settings c.args.fill_rule (holds c.args.overlay_rule) given segments passes (graph_with whole built.links.now))
     (λ built. EnclosesOverlay settings c.args.overlay_rule c.args.fill_rule given passes (graph_with whole built.links.now))
-    (λ built overlay. overlay_region settings c.args.overlay_rule c.args.fill_rule given passes (graph_with whole built.links.now) (overlay.far_region balance))
+    (λ built overlay. overlay_region (reach_of_run settings given passes) c.args.overlay_rule c.args.fill_rule given (graph_with whole built.links.now) (overlay.far_region balance))
     (returns-clause-overlay g c)
 
 pub returns-clause-graph : goal.returns-clause-graph
@@ -109,8 +111,8 @@ returns-clause-refused g c =
     let given : List WholeSegment = segments_of c.args.segments.now.items in
     let segments : List WholeSegment = segments_of c.split_segments.new.list.items in
     let passes : ℕ = passes_of c.split_segments.new.self in
-    let split : IsSplit settings given segments passes = split_from _ _ _ _ _ _ _ e.run e.arranged e.balance e.in_box e.near e.winding e.exact_input e.bound in
-    refused_build settings given segments (passes_of c.args.splitter.now) passes c.build_boolean_overlay.result split e.fits (rw c.deref.ensures.value at c.build_boolean_overlay.ensures.out_of_range)
+    let split : IsSplit settings given segments passes = split_from _ _ _ _ _ _ _ _ e.run e.arranged e.balance e.in_box e.near e.winding e.exact_input e.bound e.reach e.exact_reach in
+    refused_build (course_of_passes settings given passes) (passes_of c.args.splitter.now) given segments c.build_boolean_overlay.result split e.fits (rw c.deref.ensures.value at c.build_boolean_overlay.ensures.out_of_range)
 
 pub returns-clause-reach : goal.returns-clause-reach
 returns-clause-reach g c = on_ok_weaker _ (λ _. c.in_ok-split_segments.ensures.reach) c.build_boolean_overlay.ensures.in_range

@@ -81,6 +81,6 @@ returns-clause-kept_data g c =
     (c.in_ok-keep_links.ensures ∙ ap (λ ls. map (link_of g.I.OverlayInt.whole) ls) c.links.ensures)
     (c.in_ok-keep_tags.ensures ∙ ap (λ ls. map (λ l. l.edge_data) ls) c.links-2.ensures)
     c.in_ok-graph.ensures.edge_data
-    (data_after keeping _ (data_segments_of c.load_splittable.new.list.items) (data_segments_of built.new.segments.items) _ _ _ _ (segments_of-bare _) c.in_ok-graph.ensures.overlay.split.arrangement (segments_of-bare _) (ap (λ xs. data_segments_of xs)) built.ensures.list_data)
+    (data_after keeping _ (data_segments_of c.load_splittable.new.list.items) (data_segments_of built.new.segments.items) _ _ _ _ (segments_of-bare _) c.in_ok-graph.ensures.overlay.split.arrangement.left.arrangement (segments_of-bare _) (ap (λ xs. data_segments_of xs)) built.ensures.list_data)
     (λ has all. c.in_ok-graph.ensures.kept_data has (keeping_keeps has) all)
     (λ names near. c.in_ok-graph.ensures.named_data names (keeping_names_no_other names) near)
