@@ -45,7 +45,7 @@ NOT_SAID = {
 LENGTHS = {
     "README.md": 1_200,
     "CONTRIBUTING.md": 1_400,
-    "CHANGELOG.md": 1_850,
+    "CHANGELOG.md": 1_900,
     "docs/ARCHITECTURE.md": 1_750,
     "docs/DECISIONS.md": 3_080,
     "docs/DIFFERENCES.md": 1_700,

@@ -1,23 +1,17 @@
 -- What a run returns, from what its calls do.
-use Rattle.std.proofs.Common.{◌≡◌, ◌≢◌, ◌⊎◌, inl, inr, ℕ, ℤ, Bool, true, false, List, [], ◌∷◌, ◌++◌, length, Ok, Err, Option, Some, None, refl, sym, ap, ◌∙◌, subst, arith}
-use Rattle.std.specs.Prelude.{unsigned_abs, if◌then◌else◌, IfSome, IfOk, IfErr, OnOk, IsErrOf}
-use Rattle.std.proofs.lemmas.Bool.{false≢true}
-use Rattle.std.specs.Io.KnownBytes.{Appends, Keeps}
-use Rattle.std.specs.Result.{is_ok}
+use Rattle.std.proofs.Common.{◌≡◌, ◌≢◌, ◌⊎◌, inl, inr, ℕ, ℤ, List, [], ◌∷◌, length, Ok, Err, None, refl, sym, ap, ◌∙◌, subst}
+use Rattle.std.specs.Prelude.{unsigned_abs, IfErr, IsErrOf}
 use Rattle.std.specs.Option.{ok_or}
 use Rattle.std.specs.declared.result.Result.{Result}
 use Rattle.overlay_base.specs.Segments.{WholeSegment}
-use Rattle.overlay_base.specs.Join.{join, has_equal_pairs, join_leaves_range}
-use Rattle.overlay_base.specs.declared.segm.fault.Fault.{Fault}
-use Rattle.overlay_base.specs.declared.segm.fault.Fault.TheVariants.{CountOutOfRange, Memory}
+use Rattle.overlay_base.specs.declared.segm.fault.Fault.TheVariants.{Memory}
 use Rattle.overlay_text.specs.declared.settings.Command.{Command}
-use Rattle.overlay_text.specs.declared.settings.Command.TheVariants.{Join, Cross, Split, Graph, Walks}
+use Rattle.overlay_text.specs.declared.settings.Command.TheVariants.{Cross}
 use Rattle.overlay_text.specs.declared.settings.Engine.{Engine}
 use Rattle.overlay_text.specs.declared.settings.Settings.{Settings}
 use Rattle.overlay_text.specs.declared.stop.Stop.{Stop}
-use Rattle.overlay_text.specs.declared.stop.Stop.TheVariants.{Usage, NotTwoSegments, Line, Refused, Input, Output}
-use Rattle.overlay_text.specs.Output.{segment_lines, flag_line, cross_text}
-use Rattle.overlay_text.specs.Status.{status_of}
+use Rattle.overlay_text.specs.declared.stop.Stop.TheVariants.{Usage, NotTwoSegments, Refused}
+use Rattle.overlay_text.specs.Output.{cross_text}
 use Rattle.overlay_text.specs.Text.{lines_of, AskInTurnFor, IsFirstFault}
 use Rattle.overlay_text.specs.Runs.{AskForNone}
 use Rattle.overlay_text.specs.Words.{AskNothing}

@@ -5,7 +5,13 @@ use Rattle.std.specs.declared.result.Result.{Result}
 use Rattle.overlay_base.specs.Segments.{WholeSegment}
 use Rattle.overlay_base.specs.Join.{join, has_equal_pairs, join_leaves_range}
 use Rattle.overlay_base.specs.Radius.{exponent_cap}
-use Rattle.overlay_split.specs.Run.{Settings as RunSettings, IsPassCount, IsRun, LeavesRange, after_passes}
+use Rattle.overlay_base.specs.declared.overlay_core.solver.Solver.{Solver}
+use Rattle.overlay_split.specs.Run.{Settings as RunSettings}
+use Rattle.overlay_contours.specs.Splittings.{Splitting, IsLeftBy, SumsLeaveRange}
+use Rattle.overlay_contours.specs.declared.rounding.Rounding.{Rounding}
+use Rattle.overlay_contours.specs.declared.rounding.Rounding.TheVariants.{HotPixels, Pairwise}
+use Rattle.i_overlay.specs.SplitLists.{TellsChangeBy}
+use Rattle.i_overlay.specs.SplitterOf.{splitting_by}
 use Rattle.overlay_base.specs.Choices.{in_one_row}
 use Rattle.overlay_sweep.specs.ChainWindings.{tops_leave_range}
 use Rattle.overlay_sweep.specs.Costs.{IsSweepCost}
@@ -15,6 +21,8 @@ use Rattle.overlay_base.specs.declared.segm.fault.Fault.TheVariants.{CountOutOfR
 use Rattle.overlay_text.specs.declared.settings.Command.{Command}
 use Rattle.overlay_text.specs.declared.settings.Command.TheVariants.{Join, Cross, Split, Graph as GraphCommand, Walks}
 use Rattle.overlay_text.specs.Engines.{least_of, greatest_of, engine_bits}
+use Rattle.overlay_text.specs.declared.settings.Rounding.{Rounding as ChosenRounding}
+use Rattle.overlay_text.specs.declared.settings.Rounding.TheVariants.{HotPixels as ChosenHotPixels, Pairwise as ChosenPairwise}
 use Rattle.overlay_text.specs.declared.settings.Settings.{Settings}
 use Rattle.overlay_text.specs.declared.stop.Stop.{Stop}
 use Rattle.overlay_text.specs.declared.stop.Stop.TheVariants.{NotTwoSegments, Refused}
@@ -28,7 +36,11 @@ use Rattle.overlay_base.specs.SegmentOf.{segments_of}
 use Rattle.overlay_base.specs.declared.segm.segment.Segment.{Segment}
 use Rattle.overlay_text.specs.declared.settings.SquaredRadius.{SquaredRadius}
 
--- what a split is set to, in coordinates of that many bits
+-- the solver that the settings choose
+abbrev pub solver_of : Settings → Solver
+solver_of settings = record { strategy = settings.strategy; precision = settings.precision }
+
+-- what passes over pairs are set to, in coordinates of that many bits
 abbrev pub split_settings : ℕ → Settings → RunSettings
 split_settings bits settings = record {
   start = settings.precision.start;
@@ -37,25 +49,38 @@ split_settings bits settings = record {
   limit = settings.snap_limit;
 }
 
--- the graph that the settings choose of the arrangement that a split of the segments leaves, where no winding leaves the range
+-- the rounding that is chosen
+abbrev pub rounding_named : ChosenRounding → Rounding
+rounding_named ChosenHotPixels = HotPixels
+rounding_named ChosenPairwise = Pairwise
+
+-- how a list is split: by snap rounding, or by such passes
+abbrev pub splitting_of : ℕ → Settings → Splitting
+splitting_of bits settings = splitting_by (rounding_named settings.rounding) (split_settings bits settings)
+
+-- the graph that the settings choose of what a split of the segments leaves, where no winding leaves the range
 abbrev pub IsGraphOf : ℕ → Settings → List WholeSegment → Graph → Type 0
 IsGraphOf bits settings segments graph =
-    (passes : ℕ) × IsPassCount (split_settings bits settings) segments passes
-    × IsFalse (tops_leave_range (after_passes (split_settings bits settings) segments passes))
-    × (graph ≡ graph_by (keeps_by_optional_rule settings.rule) settings.fill_rule (after_passes (split_settings bits settings) segments passes))
+    (result : List WholeSegment) × (passes : ℕ) × (halves : ℕ) × IsLeftBy (splitting_of bits settings) segments result passes halves
+    × IsFalse (tops_leave_range result) × (graph ≡ graph_by (keeps_by_optional_rule settings.rule) settings.fill_rule result)
 
--- a count leaves the range: in the split of the segments, or above some segment of the arrangement that it leaves
+-- a count leaves the range: in the split of the segments, or above some segment of what it leaves
 abbrev pub CountsLeaveRange : ℕ → Settings → List WholeSegment → Type 0
 CountsLeaveRange bits settings segments =
-    LeavesRange (split_settings bits settings) segments
-    ⊎ ((passes : ℕ) × IsPassCount (split_settings bits settings) segments passes
-    × IsTrue (tops_leave_range (after_passes (split_settings bits settings) segments passes)))
+    SumsLeaveRange (splitting_of bits settings) segments
+    ⊎ ((result : List WholeSegment) × (passes : ℕ) × (halves : ℕ) × IsLeftBy (splitting_of bits settings) segments result passes halves × IsTrue (tops_leave_range result))
 
 -- the sweep of a graph compares what the strategy costs that the words choose
 abbrev pub IsGraphCost : ℕ → Settings → List WholeSegment → ℕ → Type 0
 IsGraphCost bits settings segments asked =
-    (passes : ℕ) × IsPassCount (split_settings bits settings) segments passes
-    × IsSweepCost (in_one_row settings.strategy) (after_passes (split_settings bits settings) segments passes) asked
+    (result : List WholeSegment) × (passes : ℕ) × (halves : ℕ) × IsLeftBy (splitting_of bits settings) segments result passes halves
+    × IsSweepCost (in_one_row settings.strategy) result asked
+
+-- the text of a split: the segments that it leaves, whether it changed them, and in how many passes
+abbrev pub IsSplitText : Splitting → List WholeSegment → List ℕ → Type 0
+IsSplitText splitting segments text =
+    (result : List WholeSegment) × (passes : ℕ) × (halves : ℕ) × (flag : Bool) × IsLeftBy splitting segments result passes halves
+    × TellsChangeBy splitting segments passes flag × (text ≡ segment_lines result ++ flag_line flag ++ passes_line passes)
 
 -- the text of the join of segments
 abbrev pub join_text : List WholeSegment → List ℕ
@@ -68,9 +93,8 @@ IsCommandAnswer bits Join settings segments answer =
     else Ok (join_text segments))
 IsCommandAnswer bits Cross settings segments answer = answer ≡ ok_or (cross_text (unsigned_abs settings.radius.squared) segments) NotTwoSegments
 IsCommandAnswer bits Split settings segments answer =
-    ((result : List WholeSegment) × (passes : ℕ) × (flag : Bool) × IsRun (split_settings bits settings) segments result passes flag
-    × (answer ≡ Ok (segment_lines result ++ flag_line flag ++ passes_line passes)))
-    ⊎ (LeavesRange (split_settings bits settings) segments × (answer ≡ Err (Refused CountOutOfRange)))
+    ((text : List ℕ) × IsSplitText (splitting_of bits settings) segments text × (answer ≡ Ok text))
+    ⊎ (SumsLeaveRange (splitting_of bits settings) segments × (answer ≡ Err (Refused CountOutOfRange)))
 IsCommandAnswer bits GraphCommand settings segments answer =
     ((graph : Graph) × IsGraphOf bits settings segments graph × (answer ≡ Ok (graph_text graph)))
     ⊎ (CountsLeaveRange bits settings segments × (answer ≡ Err (Refused CountOutOfRange)))

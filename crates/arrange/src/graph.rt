@@ -3,21 +3,22 @@ ghost use Rattle.std.specs.Prelude.{◌≡◌, ◌⊎◌, true, Ok, Err, IsTrue,
 ghost use Rattle.overlay_base.specs.declared.segm.fault.Fault.TheVariants.{CountOutOfRange};
 ghost use Rattle.overlay_base.specs.SegmentOf.{segments_of};
 ghost use Rattle.overlay_base.specs.ArrangedOf.{IsSplittable};
-ghost use Rattle.overlay_split.specs.Run.{IsPassCount, LeavesRange, after_passes};
-ghost use Rattle.overlay_split.specs.SettingsOf.{passes_of, settings_of};
+ghost use Rattle.overlay_contours.specs.Splittings.{IsLeftBy, SumsLeaveRange};
+ghost use Rattle.i_overlay.specs.SplitterOf.{rounding_in, snap_limit_in, passes_in, reach_in, splitting_over};
 ghost use Rattle.overlay_sweep.specs.ChainWindings.{tops_leave_range};
 ghost use Rattle.overlay_build.specs.Graph.{graph_by};
 ghost use Rattle.overlay_build.specs.GraphOf.{graph_with};
 ghost use Rattle.overlay_build.specs.OverlayGraphOf.{links_of, graph_asked, whole_graph};
 ghost use Rattle.overlay_base.specs.Choices.{in_one_row};
 ghost use Rattle.overlay_sweep.specs.Costs.{IsSweepCost};
-ghost use Rattle.arrange.specs.Run.{IsGraphCost, CountsLeaveRange, IsAnswerTo, IsGraphFor};
+ghost use Rattle.arrange.specs.Run.{IsGraphCost, CountsLeaveRange, IsAnswerTo, IsGraphFor, rounding_named};
 ghost use Rattle.overlay_text.specs.declared.settings.Command.{Command};
 ghost use Rattle.overlay_text.specs.Runs.{IfStopped};
 ghost use Rattle.overlay_base.specs.FaultOf.{OnTooLarge};
 
 use crate::graph_output::write_graph;
-use i_overlay::overlay::split_and_build_overlay;
+use i_overlay::overlay::split_and_build_overlay_by;
+use i_overlay::splitter::Splitter;
 use overlay_base::overlay_core::fill_rule::FillRule;
 use overlay_base::overlay_core::solver::Solver;
 use overlay_base::segm::boolean::ShapeCountBoolean;
@@ -26,9 +27,9 @@ use overlay_base::segm::segment::Segment;
 use overlay_build::build::builder::GraphBuilder;
 use overlay_build::build::graph::OverlayGraph;
 use overlay_build::build::graph_node::OverlayNode;
+use overlay_contours::rounding::Rounding as ContourRounding;
 use overlay_geometry::num::OverlayInt;
-use overlay_split::split::solver::SplitSolver;
-use overlay_text::settings::Settings;
+use overlay_text::settings::{Rounding, Settings};
 use overlay_text::stop::Stop;
 use std::alloc::Global;
 
@@ -71,10 +72,10 @@ pub fn build_graph<'a, I: OverlayInt>(
         (graph_asked graph)) }
 {
     let solver = settings.solver();
-    let mut splitter = SplitSolver::with_snap_limit(alloc, settings.snap_limit);
+    let mut splitter = splitter_for(alloc, &settings);
     let fill_rule = settings.fill_rule;
     match settings.rule {
-        Some(rule) => split_and_build_overlay(
+        Some(rule) => split_and_build_overlay_by(
             &mut splitter,
             builder,
             &mut segments,
@@ -86,29 +87,37 @@ pub fn build_graph<'a, I: OverlayInt>(
     }
 }
 
+/// The splitter that the settings choose: by their rounding, and with their limit.
+pub fn splitter_for<I: OverlayInt>(alloc: Global, settings: &Settings) -> Splitter<I>
+    ensures rounding { rounding_in result ≡ rounding_named settings.now.rounding }
+    ensures limit { snap_limit_in result ≡ settings.now.snap_limit }
+{
+    let rounding = match settings.rounding {
+        Rounding::Pairwise => ContourRounding::Pairwise,
+        Rounding::HotPixels => ContourRounding::HotPixels,
+    };
+    Splitter::with_snap_limit(alloc, rounding, settings.snap_limit)
+}
+
 /// Splits the segments, and builds the graph of all of the arrangement.
 fn build_all<'a, I: OverlayInt>(
-    splitter: &mut SplitSolver<I>,
+    splitter: &mut Splitter<I>,
     builder: &'a mut Builder<I>,
     segments: &mut Lines<I>,
     solver: &Solver,
     fill_rule: FillRule,
 ) -> Result<OverlayGraph<'a, I, ()>, Fault>
     requires { IsSplittable segments.old.items }
-    ensures count { OnOk result (IsPassCount (settings_of I.BITS solver.now splitter.old)
-        (segments_of segments.old.items) (passes_of splitter.new)) }
-    ensures arrangement { OnOk result (segments_of segments.new.items
-        ≡ after_passes (settings_of I.BITS solver.now splitter.old) (segments_of segments.old.items)
-        (passes_of splitter.new)) }
+    ensures left { OnOk result (IsLeftBy (splitting_over solver.now splitter.old segments.old)
+        (segments_of segments.old.items) (segments_of segments.new.items) (passes_in splitter.new)
+        (reach_in splitter.new)) }
     ensures graph { IfOk result (λ graph. graph_with I.whole (links_of graph)
         ≡ graph_by (λ _. true) fill_rule (segments_of segments.new.items)) }
     ensures in_range { OnOk result (IsFalse (tops_leave_range (segments_of segments.new.items))) }
     ensures out_of_range { IfErr result (λ fault. fault ≡ CountOutOfRange →
-        LeavesRange (settings_of I.BITS solver.now splitter.old) (segments_of segments.old.items)
-        ⊎ (IsPassCount (settings_of I.BITS solver.now splitter.old) (segments_of segments.old.items)
-        (passes_of splitter.new)
-        × (segments_of segments.new.items ≡ after_passes (settings_of I.BITS solver.now splitter.old)
-        (segments_of segments.old.items) (passes_of splitter.new))
+        SumsLeaveRange (splitting_over solver.now splitter.old segments.old) (segments_of segments.old.items)
+        ⊎ (IsLeftBy (splitting_over solver.now splitter.old segments.old) (segments_of segments.old.items)
+        (segments_of segments.new.items) (passes_in splitter.new) (reach_in splitter.new)
         × IsTrue (tops_leave_range (segments_of segments.new.items)))) }
     ensures asked { IfOk result (λ graph. IsSweepCost (in_one_row solver.now.strategy)
         (segments_of segments.new.items) (graph_asked graph)) }

@@ -15,6 +15,8 @@ mod meetings;
 #[cfg(test)]
 mod provenance;
 #[cfg(test)]
+mod roundings;
+#[cfg(test)]
 mod sources;
 #[cfg(test)]
 mod stop;

@@ -3,6 +3,7 @@ ghost use Rattle.std.specs.Prelude.{◌≡◌};
 ghost use Rattle.std.specs.Prelude.{◌≡◌, map};
 
 use i_overlay::overlay::*;
+use i_overlay::splitter::Splitter;
 use overlay_base::overlay_core::edge_data::{EdgeDataMerge, EdgeDataSplit, OverlayEdgeData};
 use overlay_base::overlay_core::fill_rule::FillRule;
 use overlay_base::overlay_core::overlay_rule::OverlayRule;
@@ -13,6 +14,7 @@ use overlay_base::segm::fault::Fault;
 use overlay_base::segm::segment::Segment;
 use overlay_base::segm::shape_type::ShapeType;
 use overlay_build::build::builder::GraphBuilder;
+use overlay_contours::rounding::Rounding;
 use overlay_geometry::geom::point::IntPoint;
 use overlay_geometry::num::OverlayInt;
 use overlay_split::split::solver::SplitSolver;
@@ -73,6 +75,28 @@ fn sources_of_shared_part(
     Ok(Some(sources.collect(alloc)?))
 }
 
+/// The same by snap rounding.
+fn sources_by_snapping(
+    alloc: Global,
+    mut sides: Vec<Numbered>,
+) -> Result<Option<Vec<Source>>, Fault> {
+    if !is_splittable(&sides) {
+        return Ok(None);
+    }
+    let mut splitter = Splitter::new(alloc, Rounding::HotPixels);
+    let mut builder = GraphBuilder::new(alloc);
+    let graph = split_and_build_overlay_by(
+        &mut splitter,
+        &mut builder,
+        &mut sides,
+        &Solver::AUTO,
+        FillRule::NonZero,
+        OverlayRule::Intersect,
+    )?;
+    let sources = graph.links().iter().map(|link| link.edge_data);
+    Ok(Some(sources.collect(alloc)?))
+}
+
 /// A step of a contour, as the segment of this number.
 fn side(from: (i32, i32), to: (i32, i32), shape: ShapeType, number: u32) -> Option<Numbered> {
     let (a, b) = (IntPoint::new(from.0, from.1), IntPoint::new(to.0, to.1));
@@ -95,6 +119,33 @@ fn each_link_names_the_side_it_came_from(rt: HostRuntime) -> Result<(), Fail> {
     }
     let sources = sources_of_shared_part(rt.alloc(), sides).expect(&rt, "no refusal");
     let wanted = [Source(7), Source(4), Source(2), Source(1)];
+    assert_eq!(rt;
+        sources.expect(&rt, "in range").as_slice(),
+        wanted.as_slice()
+    );
+    Ok(())
+}
+
+/// The sides of a square, from 0 to 3, and of a triangle, from 4 to 6. Its lower side crosses the right one of the square at
+/// a height of 1 and 2/7, which is rounded to 1, so the piece of it that bounds what both share ends there.
+#[test]
+fn each_piece_by_snapping_names_its_side(rt: HostRuntime) -> Result<(), Fail> {
+    let mut sides = Vec::new(rt.alloc());
+    let mut number = 0;
+    let square = [(0, 0), (4, 0), (4, 4), (0, 4)];
+    let triangle = [(2, 1), (9, 2), (2, 5)];
+    for (index, corner) in square.iter().enumerate() {
+        let next = square[(index + 1) % 4];
+        sides.push(side(*corner, next, ShapeType::Subject, number).expect(&rt, "two corners"))?;
+        number = number.wrapping_add(1);
+    }
+    for (index, corner) in triangle.iter().enumerate() {
+        let next = triangle[(index + 1) % 3];
+        sides.push(side(*corner, next, ShapeType::Clip, number).expect(&rt, "two corners"))?;
+        number = number.wrapping_add(1);
+    }
+    let sources = sources_by_snapping(rt.alloc(), sides).expect(&rt, "no refusal");
+    let wanted = [Source(6), Source(4), Source(2), Source(1)];
     assert_eq!(rt;
         sources.expect(&rt, "in range").as_slice(),
         wanted.as_slice()

@@ -2,7 +2,7 @@
 use overlay_base::overlay_core::fill_rule::FillRule;
 use overlay_base::overlay_core::overlay_rule::OverlayRule;
 use overlay_base::overlay_core::solver::{Precision, Strategy};
-use overlay_text::settings::{Command, Engine, Settings, SquaredRadius};
+use overlay_text::settings::{Command, Engine, Rounding, Settings, SquaredRadius};
 use overlay_text::stop::Stop;
 use overlay_text::words::read_words;
 use std::alloc::Global;
@@ -18,6 +18,7 @@ const UNCHOSEN: Settings = Settings {
     rule: None,
     snap_limit: 256,
     radius: SquaredRadius { squared: 1 },
+    rounding: Rounding::Pairwise,
 };
 
 /// What one word chooses.
@@ -31,9 +32,10 @@ enum Choice {
     Rule(Option<OverlayRule>),
     Limit(u32),
     Radius(SquaredRadius),
+    Rounding(Rounding),
 }
 
-const CHOICES: [(&str, Choice); 40] = [
+const CHOICES: [(&str, Choice); 42] = [
     ("engine=i16", Choice::Engine(Engine::I16)),
     ("engine=i32", Choice::Engine(Engine::I32)),
     ("strategy=list", Choice::Strategy(Strategy::List)),
@@ -101,6 +103,8 @@ const CHOICES: [(&str, Choice); 40] = [
             squared: 72057594037927936,
         }),
     ),
+    ("rounding=pairwise", Choice::Rounding(Rounding::Pairwise)),
+    ("rounding=hot_pixels", Choice::Rounding(Rounding::HotPixels)),
 ];
 
 const COMMANDS: [(&str, Command); 5] = [
@@ -125,6 +129,7 @@ fn settings_of(choice: Choice) -> Settings {
         Choice::Rule(rule) => settings.rule = rule,
         Choice::Limit(limit) => settings.snap_limit = limit,
         Choice::Radius(radius) => settings.radius = radius,
+        Choice::Rounding(rounding) => settings.rounding = rounding,
     }
     settings
 }

@@ -8,12 +8,12 @@ use Rattle.std.specs.Option.{option_map_or}
 use Rattle.std.specs.Prelude.{codes, Contains}
 use Rattle.overlay_base.specs.declared.overlay_core.fill_rule.FillRule.TheVariants.{NonZero}
 use Rattle.overlay_base.specs.declared.overlay_core.solver.Strategy.TheVariants.{Auto}
-use Rattle.overlay_text.specs.declared.settings.Command.{Command}
 use Rattle.overlay_text.specs.declared.settings.Engine.TheVariants.{I32}
+use Rattle.overlay_text.specs.declared.settings.Rounding.TheVariants.{Pairwise}
 use Rattle.overlay_text.specs.declared.settings.Settings.{Settings}
 use Rattle.overlay_text.specs.declared.settings.SquaredRadius.{SquaredRadius}
 use Rattle.overlay_text.specs.declared.words.Choices.{Choices}
-use Rattle.overlay_text.specs.Words.{NamesCommand, NamesEngine, NamesStrategy, precision_of, NamesPrecision, NamesFillRule, NamesRule, WritesLimit, WritesSquare, WritesRadius, setting, IsSetting, WordsSet, SetNothing, WordsAsk, AskNothing, TakesWord, CanTake}
+use Rattle.overlay_text.specs.Words.{NamesEngine, NamesStrategy, precision_of, NamesPrecision, NamesFillRule, NamesRule, WritesLimit, WritesSquare, WritesRadius, NamesRounding, setting, IsSetting, WordsSet, SetNothing, AskNothing, TakesWord, CanTake}
 use Rattle.overlay_text.proofs.Slots.{Slot, empty_slot, slot-more, chosen-from_slot, unwrapped, takes_chosen}
 
 -- what is in the slots when these words are read
@@ -26,6 +26,7 @@ pub record AreRead (words : List (List ℕ)) (choices : Choices) : Type 0 where
   pub rule : Slot (codes "rule") NamesRule words choices.rule
   pub limit : Slot (codes "limit") WritesLimit words choices.snap_limit
   pub radius : Slot (codes "radius") WritesRadius words choices.radius
+  pub rounding : Slot (codes "rounding") NamesRounding words choices.rounding
 
 -- how a word that is taken changes them
 pub record TakesWords (word : List ℕ) (old new : Choices) : Type 0 where
@@ -37,6 +38,7 @@ pub record TakesWords (word : List ℕ) (old new : Choices) : Type 0 where
   pub rule : TakesWord (codes "rule") NamesRule word old.rule new.rule
   pub limit : TakesWord (codes "limit") WritesLimit word old.snap_limit new.snap_limit
   pub radius : TakesWord (codes "radius") WritesRadius word old.radius new.radius
+  pub rounding : TakesWord (codes "rounding") NamesRounding word old.rounding new.rounding
 
 -- no slot can take the word
 pub record NoneTakes (word : List ℕ) (choices : Choices) : Type 0 where
@@ -47,6 +49,7 @@ pub record NoneTakes (word : List ℕ) (choices : Choices) : Type 0 where
   pub rule : ¬ (CanTake (codes "rule") NamesRule word choices.rule)
   pub limit : ¬ (CanTake (codes "limit") WritesLimit word choices.snap_limit)
   pub radius : ¬ (CanTake (codes "radius") WritesRadius word choices.radius)
+  pub rounding : ¬ (CanTake (codes "rounding") NamesRounding word choices.rounding)
 
 abbrev pub squared_or_one : Option SquaredRadius → ℤ
 squared_or_one slot = option_map_or (λ radius. radius.squared) slot (pos 1)
@@ -60,9 +63,10 @@ pub record AreChosen (choices : Choices) (settings : Settings) : Type 0 where
   pub rule : settings.rule ≡ unwrap_or choices.rule None
   pub limit : settings.snap_limit ≡ unwrap_or choices.snap_limit 256
   pub radius : settings.radius.squared ≡ squared_or_one choices.radius
+  pub rounding : settings.rounding ≡ unwrap_or choices.rounding Pairwise
 
-pub nothing_read : (choices : Choices) → choices.engine ≡ None → choices.strategy ≡ None → choices.precision ≡ None → choices.fill_rule ≡ None → choices.rule ≡ None → choices.snap_limit ≡ None → choices.radius ≡ None → AreRead [] choices
-nothing_read choices engine strategy precision fill rule limit radius = record {
+pub nothing_read : (choices : Choices) → choices.engine ≡ None → choices.strategy ≡ None → choices.precision ≡ None → choices.fill_rule ≡ None → choices.rule ≡ None → choices.snap_limit ≡ None → choices.radius ≡ None → choices.rounding ≡ None → AreRead [] choices
+nothing_read choices engine strategy precision fill rule limit radius rounding = record {
   known = All-nil IsSetting;
   engine = empty_slot (codes "engine") NamesEngine choices.engine engine;
   strategy = empty_slot (codes "strategy") NamesStrategy choices.strategy strategy;
@@ -71,6 +75,7 @@ nothing_read choices engine strategy precision fill rule limit radius = record {
   rule = empty_slot (codes "rule") NamesRule choices.rule rule;
   limit = empty_slot (codes "limit") WritesLimit choices.snap_limit limit;
   radius = empty_slot (codes "radius") WritesRadius choices.radius radius;
+  rounding = empty_slot (codes "rounding") NamesRounding choices.rounding rounding;
 }
 
 pub one_more : (words : List (List ℕ)) (word : List ℕ) (old new : Choices) → AreRead words old → TakesWords word old new → AreRead (words ++ word ∷ []) new
@@ -83,21 +88,23 @@ one_more words word old new held takes = record {
   rule = slot-more (codes "rule") NamesRule words word old.rule new.rule held.rule takes.rule;
   limit = slot-more (codes "limit") WritesLimit words word old.snap_limit new.snap_limit held.limit takes.limit;
   radius = slot-more (codes "radius") WritesRadius words word old.radius new.radius held.radius takes.radius;
+  rounding = slot-more (codes "rounding") NamesRounding words word old.rounding new.rounding held.rounding takes.rounding;
 }
 
 abbrev WhereSet : List ℕ → Type 0 → List ℕ → Type 0
 WhereSet word Z name = (value : List ℕ) → word ≡ setting name value → Z
 
--- a word that sets one of the seven names
-each_name : {Z : Type 0} (word : List ℕ) → IsSetting word → WhereSet word Z (codes "engine") → WhereSet word Z (codes "strategy") → WhereSet word Z (codes "precision") → WhereSet word Z (codes "fill") → WhereSet word Z (codes "rule") → WhereSet word Z (codes "limit") → WhereSet word Z (codes "radius") → Z
-each_name word (name, value, (zero, below, is), sets) f _ _ _ _ _ _ = f value (sets ∙ ap (λ n. setting n value) (sym is))
-each_name word (name, value, (suc zero, below, is), sets) _ f _ _ _ _ _ = f value (sets ∙ ap (λ n. setting n value) (sym is))
-each_name word (name, value, (suc (suc zero), below, is), sets) _ _ f _ _ _ _ = f value (sets ∙ ap (λ n. setting n value) (sym is))
-each_name word (name, value, (suc (suc (suc zero)), below, is), sets) _ _ _ f _ _ _ = f value (sets ∙ ap (λ n. setting n value) (sym is))
-each_name word (name, value, (suc (suc (suc (suc zero))), below, is), sets) _ _ _ _ f _ _ = f value (sets ∙ ap (λ n. setting n value) (sym is))
-each_name word (name, value, (suc (suc (suc (suc (suc zero)))), below, is), sets) _ _ _ _ _ f _ = f value (sets ∙ ap (λ n. setting n value) (sym is))
-each_name word (name, value, (suc (suc (suc (suc (suc (suc zero))))), below, is), sets) _ _ _ _ _ _ f = f value (sets ∙ ap (λ n. setting n value) (sym is))
-each_name word (name, value, (suc (suc (suc (suc (suc (suc (suc k)))))), below, is), sets) _ _ _ _ _ _ _ = absurd (omega (arith, below))
+-- a word that sets one of the eight names
+each_name : {Z : Type 0} (word : List ℕ) → IsSetting word → WhereSet word Z (codes "engine") → WhereSet word Z (codes "strategy") → WhereSet word Z (codes "precision") → WhereSet word Z (codes "fill") → WhereSet word Z (codes "rule") → WhereSet word Z (codes "limit") → WhereSet word Z (codes "radius") → WhereSet word Z (codes "rounding") → Z
+each_name word (name, value, (zero, below, is), sets) f _ _ _ _ _ _ _ = f value (sets ∙ ap (λ n. setting n value) (sym is))
+each_name word (name, value, (suc zero, below, is), sets) _ f _ _ _ _ _ _ = f value (sets ∙ ap (λ n. setting n value) (sym is))
+each_name word (name, value, (suc (suc zero), below, is), sets) _ _ f _ _ _ _ _ = f value (sets ∙ ap (λ n. setting n value) (sym is))
+each_name word (name, value, (suc (suc (suc zero)), below, is), sets) _ _ _ f _ _ _ _ = f value (sets ∙ ap (λ n. setting n value) (sym is))
+each_name word (name, value, (suc (suc (suc (suc zero))), below, is), sets) _ _ _ _ f _ _ _ = f value (sets ∙ ap (λ n. setting n value) (sym is))
+each_name word (name, value, (suc (suc (suc (suc (suc zero)))), below, is), sets) _ _ _ _ _ f _ _ = f value (sets ∙ ap (λ n. setting n value) (sym is))
+each_name word (name, value, (suc (suc (suc (suc (suc (suc zero))))), below, is), sets) _ _ _ _ _ _ f _ = f value (sets ∙ ap (λ n. setting n value) (sym is))
+each_name word (name, value, (suc (suc (suc (suc (suc (suc (suc zero)))))), below, is), sets) _ _ _ _ _ _ _ f = f value (sets ∙ ap (λ n. setting n value) (sym is))
+each_name word (name, value, (suc (suc (suc (suc (suc (suc (suc (suc k))))))), below, is), sets) _ _ _ _ _ _ _ _ = absurd (omega (arith, below))
 
 pub cut_mapped : {X Y : Type 0} (f : X → Y) (xs : List X) (i : ℕ) (x : X) → i < length xs → x ≡ get_or xs i x → map f xs ≡ map f (take i xs) ++ f x ∷ map f (drop (i + 1) xs)
 cut_mapped f xs i x below is =
@@ -116,6 +123,7 @@ refuses words before after word choices held none at settings set =
     (λ value sets. let takes = takes_chosen (codes "rule") NamesRule NamesRule words before after word value choices.rule None settings.rule held.rule set.rule at sets in none.rule (takes.0, (settings.rule, takes.1)))
     (λ value sets. let takes = takes_chosen (codes "limit") WritesLimit WritesLimit words before after word value choices.snap_limit 256 settings.snap_limit held.limit set.limit at sets in none.limit (takes.0, (settings.snap_limit, takes.1)))
     (λ value sets. let takes = takes_chosen (codes "radius") WritesRadius WritesSquare words before after word value choices.radius (pos 1) settings.radius.squared held.radius set.radius at sets in none.radius (takes.0, (settings.radius, takes.1)))
+    (λ value sets. let takes = takes_chosen (codes "rounding") NamesRounding NamesRounding words before after word value choices.rounding Pairwise settings.rounding held.rounding set.rounding at sets in none.rounding (takes.0, (settings.rounding, takes.1)))
 
 -- words after the first that set nothing choose nothing
 pub ask_nothing : (words others : List (List ℕ)) (first : List ℕ) → words ≡ first ∷ others → SetNothing others → AskNothing words
@@ -132,4 +140,5 @@ sets words choices settings held chosen = record {
   rule = unwrapped (codes "rule") NamesRule words choices.rule None settings.rule held.rule chosen.rule;
   limit = unwrapped (codes "limit") WritesLimit words choices.snap_limit 256 settings.snap_limit held.limit chosen.limit;
   radius = chosen-from_slot (codes "radius") WritesRadius WritesSquare words choices.radius (pos 1) settings.radius.squared held.radius (λ value x e means. subst (WritesSquare value) (sym (chosen.radius ∙ ap squared_or_one e)) means) (λ e. chosen.radius ∙ ap squared_or_one e);
+  rounding = unwrapped (codes "rounding") NamesRounding words choices.rounding Pairwise settings.rounding held.rounding chosen.rounding;
 }

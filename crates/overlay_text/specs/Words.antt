@@ -7,6 +7,8 @@ use Rattle.overlay_text.specs.declared.settings.Command.{Command}
 use Rattle.overlay_text.specs.declared.settings.Command.TheVariants.{Join, Cross, Split, Graph, Walks}
 use Rattle.overlay_text.specs.declared.settings.Engine.{Engine}
 use Rattle.overlay_text.specs.declared.settings.Engine.TheVariants.{I16, I32}
+use Rattle.overlay_text.specs.declared.settings.Rounding.{Rounding}
+use Rattle.overlay_text.specs.declared.settings.Rounding.TheVariants.{Pairwise, HotPixels}
 use Rattle.overlay_text.specs.declared.settings.Settings.{Settings}
 use Rattle.overlay_text.specs.declared.settings.SquaredRadius.{SquaredRadius}
 use Rattle.overlay_base.specs.declared.overlay_core.solver.Precision.{Precision}
@@ -35,6 +37,10 @@ NamesStrategy value ByList = value ≡ codes "list"
 NamesStrategy value Tree = value ≡ codes "tree"
 NamesStrategy value Frag = value ≡ codes "frag"
 NamesStrategy value Auto = value ≡ codes "auto"
+
+abbrev pub NamesRounding : List ℕ → Rounding → Type 0
+NamesRounding value Pairwise = value ≡ codes "pairwise"
+NamesRounding value HotPixels = value ≡ codes "hot_pixels"
 
 abbrev pub NamesFillRule : List ℕ → FillRule → Type 0
 NamesFillRule value EvenOdd = value ≡ codes "evenodd"
@@ -107,7 +113,7 @@ IsName name = IsTrue (list_all (λ code. not (code == 61)) name)
 
 -- the names of the settings
 abbrev pub setting_names : List (List ℕ)
-setting_names = codes "engine" ∷ codes "strategy" ∷ codes "precision" ∷ codes "fill" ∷ codes "rule" ∷ codes "limit" ∷ codes "radius" ∷ []
+setting_names = codes "engine" ∷ codes "strategy" ∷ codes "precision" ∷ codes "fill" ∷ codes "rule" ∷ codes "limit" ∷ codes "radius" ∷ codes "rounding" ∷ []
 
 -- the word sets one of these names
 abbrev pub IsSetting : List ℕ → Type 0
@@ -138,6 +144,7 @@ pub record WordsSet (words : List (List ℕ)) (settings : Settings) : Type 0 whe
   pub rule : IsChosen (codes "rule") NamesRule None words settings.rule
   pub limit : IsChosen (codes "limit") WritesLimit 256 words settings.snap_limit
   pub radius : IsChosen (codes "radius") WritesSquare (pos 1) words settings.radius.squared
+  pub rounding : IsChosen (codes "rounding") NamesRounding Pairwise words settings.rounding
 
 -- no settings are what the words set
 abbrev pub SetNothing : List (List ℕ) → Type 0

@@ -27,6 +27,15 @@ pub enum Engine {
     I32,
 }
 
+/// How a split places crossings that have no integer coordinates.
+#[derive(Clone, Copy, Debug, PartialEq)]
+pub enum Rounding {
+    /// Pass after pass over pairs, each crossing by itself.
+    Pairwise,
+    /// By snap rounding, in one pass.
+    HotPixels,
+}
+
 /// How far a crossing may be moved to an end of a segment: a squared distance from 1 to `2^56`.
 #[derive(Clone, Copy, Debug, PartialEq)]
 pub struct SquaredRadius {
@@ -46,6 +55,7 @@ pub struct Settings {
     /// How many passes of a split may snap.
     pub snap_limit: u32,
     pub radius: SquaredRadius,
+    pub rounding: Rounding,
 }
 
 impl Settings {

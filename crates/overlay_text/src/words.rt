@@ -3,15 +3,16 @@ ghost use Rattle.std.specs.Prelude.{◌≡◌, ◌≢◌, ◌↔◌, ℕ, ℤ, p
 ghost use Rattle.std.specs.Option.{option_map_or};
 ghost use Rattle.overlay_text.specs.declared.settings.Command.{Command};
 ghost use Rattle.overlay_text.specs.declared.settings.Engine.{Engine};
+ghost use Rattle.overlay_text.specs.declared.settings.Rounding.{Rounding};
 ghost use Rattle.overlay_base.specs.declared.overlay_core.fill_rule.FillRule.{FillRule};
 ghost use Rattle.overlay_base.specs.declared.overlay_core.overlay_rule.OverlayRule.{OverlayRule};
 ghost use Rattle.overlay_base.specs.declared.overlay_core.rule_table.RuleTable.{RuleTable};
 ghost use Rattle.overlay_base.specs.declared.overlay_core.solver.Precision.{Precision};
 ghost use Rattle.overlay_base.specs.declared.overlay_core.solver.Strategy.{Strategy};
-ghost use Rattle.overlay_text.specs.Words.{NamesCommand, NamesEngine, NamesStrategy, NamesFillRule, IsRuleName, WritesTable, NamesRule, precision_of, IsPrecisionName, NamesPrecision, WritesLimit, WritesSquare, WritesRadius, setting, IsName, IsSetting, WordsSet, SetNothing, WordsAsk, AskNothing, ReadsWord};
+ghost use Rattle.overlay_text.specs.Words.{NamesCommand, NamesEngine, NamesStrategy, NamesFillRule, IsRuleName, WritesTable, NamesRule, precision_of, IsPrecisionName, NamesPrecision, WritesLimit, WritesSquare, WritesRadius, NamesRounding, setting, IsName, IsSetting, WordsSet, SetNothing, WordsAsk, AskNothing, ReadsWord};
 
 use crate::number::{number, short_number};
-use crate::settings::{Command, Engine, Settings, SquaredRadius};
+use crate::settings::{Command, Engine, Rounding, Settings, SquaredRadius};
 use crate::stop::Stop;
 use overlay_base::overlay_core::fill_rule::FillRule;
 use overlay_base::overlay_core::overlay_rule::OverlayRule;
@@ -90,6 +91,18 @@ fn strategy(name: &str) -> Option<Strategy>
     }
 }
 
+/// The rounding of that name.
+fn rounding(name: &str) -> Option<Rounding>
+    ensures { MatchOption result ((rounding : Rounding) → ¬ (NamesRounding name.now rounding))
+        (NamesRounding name.now) }
+{
+    match name {
+        "pairwise" => Some(Rounding::Pairwise),
+        "hot_pixels" => Some(Rounding::HotPixels),
+        _ => None,
+    }
+}
+
 /// The fill rule of that name.
 fn fill_rule(name: &str) -> Option<FillRule>
     ensures { MatchOption result ((fill_rule : FillRule) → ¬ (NamesFillRule name.now fill_rule))
@@ -157,6 +170,7 @@ pub struct Choices {
     rule: Option<Option<OverlayRule>>,
     snap_limit: Option<u32>,
     radius: Option<SquaredRadius>,
+    rounding: Option<Rounding>,
 }
 
 impl Choices {
@@ -169,6 +183,7 @@ impl Choices {
         rule: None,
         snap_limit: None,
         radius: None,
+        rounding: None,
     };
 
     /// Takes one word of the form `name=value`.
@@ -183,6 +198,8 @@ impl Choices {
         ensures rule { ReadsWord result (codes "rule") NamesRule word.now self.old.rule self.new.rule }
         ensures limit { ReadsWord result (codes "limit") WritesLimit word.now self.old.snap_limit self.new.snap_limit }
         ensures radius { ReadsWord result (codes "radius") WritesRadius word.now self.old.radius self.new.radius }
+        ensures rounding { ReadsWord result
+            (codes "rounding") NamesRounding word.now self.old.rounding self.new.rounding }
         ensures usage { IfErr result (λ stop. stop ≡ Stop.Usage) }
     {
         let (name, value) = name_and_value(word).ok_or(Stop::Usage)?;
@@ -194,6 +211,7 @@ impl Choices {
             "rule" => choose(&mut self.rule, rule(value)),
             "limit" => choose(&mut self.snap_limit, snap_limit(value)),
             "radius" => choose(&mut self.radius, radius(value)),
+            "rounding" => choose(&mut self.rounding, rounding(value)),
             _ => Err(Stop::Usage),
         }
     }
@@ -207,6 +225,7 @@ impl Choices {
         ensures rule { result.rule ≡ unwrap_or self.now.rule None }
         ensures limit { result.snap_limit ≡ unwrap_or self.now.snap_limit 256 }
         ensures radius { result.radius.squared ≡ option_map_or (λ radius. radius.squared) self.now.radius (pos 1) }
+        ensures rounding { result.rounding ≡ unwrap_or self.now.rounding Rounding.Pairwise }
     {
         Settings {
             engine: self.engine.unwrap_or(Engine::I32),
@@ -216,6 +235,7 @@ impl Choices {
             rule: self.rule.unwrap_or(None),
             snap_limit: self.snap_limit.unwrap_or(256),
             radius: self.radius.unwrap_or(SquaredRadius { squared: 1 }),
+            rounding: self.rounding.unwrap_or(Rounding::Pairwise),
         }
     }
 }

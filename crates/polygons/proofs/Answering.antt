@@ -32,18 +32,19 @@ use Rattle.overlay_text.specs.Text.{lines_of, AskInTurn, IsFirstFaultOf}
 use Rattle.overlay_text.proofs.TextSteps.{Taken, first_fault}
 use Rattle.overlay_text.specs.Words.{setting}
 use Rattle.polygons.specs.ContourText.{GivenContour, are_in_range, subject_of, clip_of}
-use Rattle.polygons.specs.Run.{IsNoLimitOrRadius, Set, is_among, is_flag, without_flags, IsReportedOverlay, AreReportedShapes, IsReadAnswer, IsPolygonsAnswer, overlay_settings, rounding_by, splitting_by, polygons_behavior}
+use Rattle.polygons.specs.Run.{IsNotForArrange, Set, is_among, is_flag, without_flags, IsReportedOverlay, AreReportedShapes, IsReadAnswer, IsPolygonsAnswer, overlay_settings, rounding_by, splitting_by, polygons_behavior}
 use Rattle.polygons.specs.declared.run.Choices.{Choices}
 
--- words with one that sets the limit or the radius set no settings
-pub refuses : (words before : List (List ℕ)) (word : List ℕ) (after : List (List ℕ)) → words ≡ before ++ word ∷ after → (value : List ℕ) × ((word ≡ setting (codes "limit") value) ⊎ (word ≡ setting (codes "radius") value)) → (settings : Settings) → ¬ (Set words settings)
+-- words with one that sets the limit, the radius or the rounding set no settings
+pub refuses : (words before : List (List ℕ)) (word : List ℕ) (after : List (List ℕ)) → words ≡ before ++ word ∷ after → (value : List ℕ) × ((word ≡ setting (codes "limit") value) ⊎ (word ≡ setting (codes "radius") value) ⊎ (word ≡ setting (codes "rounding") value)) → (settings : Settings) → ¬ (Set words settings)
 refuses words before word after cut sets settings asked =
-    let none = All-contains IsNoLimitOrRadius words word asked.1 (subst (λ ws. Contains ws word) (sym cut) (Contains-append_right before (word ∷ after) word (0, omega arith, refl))) in
+    let none = All-contains IsNotForArrange words word asked.1 (subst (λ ws. Contains ws word) (sym cut) (Contains-append_right before (word ∷ after) word (0, omega arith, refl))) in
     by_name sets none
   where
-    by_name : (value : List ℕ) × ((word ≡ setting (codes "limit") value) ⊎ (word ≡ setting (codes "radius") value)) → IsNoLimitOrRadius word → ⊥
+    by_name : (value : List ℕ) × ((word ≡ setting (codes "limit") value) ⊎ (word ≡ setting (codes "radius") value) ⊎ (word ≡ setting (codes "rounding") value)) → IsNotForArrange word → ⊥
     by_name (value, inl is) none = none.0 value is
-    by_name (value, inr is) none = none.1 value is
+    by_name (value, inr (inl is)) none = none.1 value is
+    by_name (value, inr (inr is)) none = none.2 value is
 
 -- ---- flags
 

@@ -31,13 +31,15 @@ use Rattle.polygons.specs.ContourText.{GivenContour, AsksForContours, IsFaultyCo
 use Rattle.polygons.specs.Wkt.{AsksForPolygons, AreFaultyPolygons, multipolygon_line}
 use Rattle.polygons.specs.declared.run.Choices.{Choices}
 
--- the word sets neither of the two names that only `arrange` reads
-abbrev pub IsNoLimitOrRadius : List ℕ → Type 0
-IsNoLimitOrRadius word = ((value : List ℕ) → word ≢ setting (codes "limit") value) × ((value : List ℕ) → word ≢ setting (codes "radius") value)
+-- the word sets none of the three names that only `arrange` reads
+abbrev pub IsNotForArrange : List ℕ → Type 0
+IsNotForArrange word =
+    ((value : List ℕ) → word ≢ setting (codes "limit") value) × ((value : List ℕ) → word ≢ setting (codes "radius") value)
+    × ((value : List ℕ) → word ≢ setting (codes "rounding") value)
 
 -- the words set the settings, and none of them sets such a name
 abbrev pub Set : List (List ℕ) → Settings → Type 0
-Set words settings = WordsSet words settings × All IsNoLimitOrRadius words
+Set words settings = WordsSet words settings × All IsNotForArrange words
 
 -- one of the words is this one
 abbrev pub is_among : List (List ℕ) → List ℕ → Bool

@@ -4,7 +4,7 @@
 ghost use Rattle.std.specs.Prelude.{◌<◌, ◌≤◌, length, IfSome};
 
 use crate::contour_lines::named_shape;
-use crate::run::{is_flag, is_limit_or_radius, read_polygon_settings};
+use crate::run::{is_flag, is_for_arrange, read_polygon_settings};
 use overlay_base::segm::shape_type::ShapeType;
 use overlay_text::lines::Lines;
 use overlay_text::number::signed_number;
@@ -114,7 +114,7 @@ pub fn explain_words(alloc: Global, words: &[String]) -> Result<String, AllocErr
 /// What is wrong with a word, and what may be meant.
 fn explain_word(text: &mut String, word: &str) -> Result<(), AllocError> {
     show(text, word.as_bytes())?;
-    if is_limit_or_radius(word) {
+    if is_for_arrange(word) {
         return text.push_str(" is for `arrange` alone");
     }
     let Some((name, value)) = word.split_once('=') else {

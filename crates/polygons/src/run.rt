@@ -5,7 +5,7 @@ ghost use Rattle.overlay_base.specs.declared.segm.fault.Fault.TheVariants.{Memor
 ghost use Rattle.overlay_text.specs.declared.stop.Stop.{Stop};
 ghost use Rattle.overlay_text.specs.Words.{setting};
 ghost use Rattle.overlay_text.specs.declared.settings.Settings.{Settings};
-ghost use Rattle.polygons.specs.Run.{IsNoLimitOrRadius, Set, is_among, is_flag, without_flags, rounding_by, has_others, is_mixed, contour_shape_among, others_among, rules_by, adds_rule, IsOverlayText, IsRulesText, IsShapesText, IsWktText, IsContourAnswer, IsWktAnswer, IsRuleAnswer, IsPolygonsAnswer, polygons_behavior};
+ghost use Rattle.polygons.specs.Run.{IsNotForArrange, Set, is_among, is_flag, without_flags, rounding_by, has_others, is_mixed, contour_shape_among, others_among, rules_by, adds_rule, IsOverlayText, IsRulesText, IsShapesText, IsWktText, IsContourAnswer, IsWktAnswer, IsRuleAnswer, IsPolygonsAnswer, polygons_behavior};
 
 use crate::contour_lines::read_contours;
 use crate::contour_output::{write_contours, write_overlays, write_report, write_shapes};
@@ -221,7 +221,8 @@ pub fn adds_rule(word: &str) -> bool
         || word == "also=xor"
 }
 
-/// The settings that the words choose, but for the flags among them. None of them may set the limit or the radius.
+/// The settings that the words choose, but for the flags among them. None of them may set the limit, the radius or
+/// the rounding.
 pub fn read_polygon_settings(words: &[String]) -> Result<Settings, Stop>
     ensures set { IfOk result (λ settings. Set (without_flags (map string_bytes words.now)) settings) }
     ensures usage { IfErr result (λ stop. (stop ≡ Stop.Usage)
@@ -233,7 +234,7 @@ pub fn read_polygon_settings(words: &[String]) -> Result<Settings, Stop>
         if is_flag(word) {
             continue;
         }
-        if is_limit_or_radius(word) {
+        if is_for_arrange(word) {
             return Err(Stop::Usage);
         }
         choices.read(word)?;
@@ -241,13 +242,16 @@ pub fn read_polygon_settings(words: &[String]) -> Result<Settings, Stop>
     Ok(choices.settings())
 }
 
-/// Whether a word sets the limit or the radius, which an overlay of polygons has no use for.
-pub fn is_limit_or_radius(word: &str) -> bool
+/// Whether a word sets the limit, the radius or the rounding, none of which `polygons` reads: `pairwise` chooses its rounding.
+pub fn is_for_arrange(word: &str) -> bool
     ensures some { result ≡ true → (value : List ℕ) × ((word.now ≡ setting (codes "limit") value)
-        ⊎ (word.now ≡ setting (codes "radius") value)) }
-    ensures none { result ≡ false → IsNoLimitOrRadius word.now }
+        ⊎ (word.now ≡ setting (codes "radius") value) ⊎ (word.now ≡ setting (codes "rounding") value)) }
+    ensures none { result ≡ false → IsNotForArrange word.now }
 {
-    matches!(word.split_once('='), Some(("limit" | "radius", _)))
+    matches!(
+        word.split_once('='),
+        Some(("limit" | "radius" | "rounding", _))
+    )
 }
 
 /// The text of the overlay of the contours that the input writes.

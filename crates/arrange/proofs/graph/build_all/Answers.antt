@@ -15,21 +15,17 @@ returns-clause-graph g c =
 
 pub returns-clause-out_of_range : goal.returns-clause-out_of_range
 returns-clause-out_of_range g c =
-    let run = c.in_ok-split_segments.ensures.run in
     IfErr-weaker c.build_boolean_all.result (λ fault. fault ≡ CountOutOfRange → IsTrue (tops_leave_range (segments_of c.split_segments.new.list.items))) _
-    (λ fault tops e. inr (run.count, run.arrangement, tops e)) (rw c.deref.ensures.value at c.build_boolean_all.ensures.out_of_range)
+    (λ fault tops e. inr (c.in_ok-split_segments.ensures.split.split.arrangement.left, tops e)) (rw c.deref.ensures.value at c.build_boolean_all.ensures.out_of_range)
 
 pub split_segments-requires : goal.split_segments-requires
 split_segments-requires g c = c.requires
 
 pub build_boolean_all-requires : goal.build_boolean_all-requires
-build_boolean_all-requires g c = record { arranged = rw c.deref.ensures.value c.in_ok-split_segments.ensures.arranged }
+build_boolean_all-requires g c = record { arranged = rw c.deref.ensures.value c.in_ok-split_segments.ensures.split.arranged }
 
-pub returns-clause-count : goal.returns-clause-count
-returns-clause-count g c = on_ok_weaker _ (λ _. c.in_ok-split_segments.ensures.run.count) c.build_boolean_all.ensures.in_range
-
-pub returns-clause-arrangement : goal.returns-clause-arrangement
-returns-clause-arrangement g c = on_ok_weaker _ (λ _. c.in_ok-split_segments.ensures.run.arrangement) c.build_boolean_all.ensures.in_range
+pub returns-clause-left : goal.returns-clause-left
+returns-clause-left g c = on_ok_weaker _ (λ _. c.in_ok-split_segments.ensures.split.split.arrangement.left) c.build_boolean_all.ensures.in_range
 
 pub returns-clause-in_range : goal.returns-clause-in_range
 returns-clause-in_range g c = rw c.deref.ensures.value at c.build_boolean_all.ensures.in_range

@@ -1,4 +1,4 @@
-use Rattle.std.proofs.Common.{◌≡◌, ◌∙◌, ◌++◌, ◌∷◌, [], flat_map, take, sym, ap, List, ℕ, arith, string_bytes}
+use Rattle.std.proofs.Common.{◌∙◌, ◌++◌, ◌∷◌, [], flat_map, take, sym, ap, List, ℕ, string_bytes}
 use Rattle.std.proofs.lemmas.List.{flat_map_more, take_more}
 use Rattle.overlay_build.specs.GraphOf.{link_of}
 use Rattle.arrange.specs.GraphText.{link_line}

@@ -3,7 +3,7 @@ use Rattle.std.proofs.lemmas.List.{length-map}
 use Rattle.std.specs.Prelude.{IsErrOf}
 use Rattle.overlay_base.specs.SegmentOf.{segment_of, segments_of}
 use Rattle.overlay_text.specs.declared.stop.Stop.TheVariants.{NotTwoSegments}
-use Rattle.overlay_text.specs.declared.settings.Command.TheVariants.{Graph, Walks}
+use Rattle.overlay_text.specs.declared.settings.Command.TheVariants.{Graph, Split, Walks}
 use Rattle.overlay_text.proofs.Results.{if_err}
 use Rattle.arrange.proofs.Runs.{stops_at_fault, stops_at_crossing, stops_at_command}
 use Rattle.arrange.proofs.run.answer_with.Goals as goal
@@ -18,6 +18,10 @@ returns-in-Cross-clause-stop g c =
     let given = segments_of c.in_ok-segments.segments.items in
     let other : IsErrOf c.cross.result NotTwoSegments → length given ≢ 2 = λ e two. c.cross.ensures.two.0 e (ap length c.as_slice.ensures.value ∙ (sym (length-map c.in_ok-segments.segments.items segment_of) ∙ two)) in
     rw c.in-Cross.is (stops_at_crossing (g.I.OverlayInt.whole g.I.OverlayInt.MIN_COORD) (g.I.OverlayInt.whole g.I.OverlayInt.MAX_COORD) g.I.OverlayInt.BITS c.args.settings c.args.bytes.now c.cross.result given c.in_ok-segments.ensures.segments other c.cross.ensures.refused)
+
+pub returns-in-Split-clause-stop : goal.returns-in-Split-clause-stop
+returns-in-Split-clause-stop g c =
+    rw c.in-Split.is (stops_at_command (g.I.OverlayInt.whole g.I.OverlayInt.MIN_COORD) (g.I.OverlayInt.whole g.I.OverlayInt.MAX_COORD) g.I.OverlayInt.BITS c.args.settings c.args.bytes.now c.split.result Split (segments_of c.in_ok-segments.segments.items) c.in_ok-segments.ensures.segments c.split.ensures.stop)
 
 pub returns-in-Graph-clause-stop : goal.returns-in-Graph-clause-stop
 returns-in-Graph-clause-stop g c =

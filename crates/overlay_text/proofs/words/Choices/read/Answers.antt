@@ -1,6 +1,6 @@
 use Rattle.std.proofs.Common.{◌≡◌, ◌∙◌, ap, arith, refl}
 use Rattle.std.specs.Prelude.{codes}
-use Rattle.overlay_text.specs.Words.{setting, NamesEngine, NamesStrategy, NamesPrecision, NamesFillRule, NamesRule, WritesLimit, WritesRadius, IsName}
+use Rattle.overlay_text.specs.Words.{setting, NamesEngine, NamesStrategy, NamesPrecision, NamesFillRule, NamesRule, WritesLimit, WritesRadius, NamesRounding, IsName}
 use Rattle.overlay_text.proofs.Slots.{takes_word, squares, is_known, passes_by, other_name, no_setting}
 use Rattle.overlay_text.proofs.words.Choices.read.Goals as goal
 
@@ -25,6 +25,9 @@ returns-in_err-name-clause-limit c = no_setting (codes "limit") WritesLimit c.ar
 pub returns-in_err-name-clause-radius : goal.returns-in_err-name-clause-radius
 returns-in_err-name-clause-radius c = no_setting (codes "radius") WritesRadius c.args.word.now c.args.self.now.radius c.args.self.now.radius c.from_residual.result c.from_residual.ensures.0 (rw c.in_err-name.ensures.ok_part at c.name_and_value.ensures)
 
+pub returns-in_err-name-clause-rounding : goal.returns-in_err-name-clause-rounding
+returns-in_err-name-clause-rounding c = no_setting (codes "rounding") NamesRounding c.args.word.now c.args.self.now.rounding c.args.self.now.rounding c.from_residual.result c.from_residual.ensures.0 (rw c.in_err-name.ensures.ok_part at c.name_and_value.ensures)
+
 pub returns-in-engine : goal.returns-in-engine
 returns-in-engine c =
     let self = c.args.self.now in
@@ -41,6 +44,7 @@ returns-in-engine c =
       rule = passes_by word (codes "engine") value took.result sets refl (codes "rule") NamesRule self.rule refl refl;
       limit = passes_by word (codes "engine") value took.result sets refl (codes "limit") WritesLimit self.snap_limit refl refl;
       radius = passes_by word (codes "engine") value took.result sets refl (codes "radius") WritesRadius self.radius refl refl;
+      rounding = passes_by word (codes "engine") value took.result sets refl (codes "rounding") NamesRounding self.rounding refl refl;
       usage = took.ensures.usage;
     }
 
@@ -60,6 +64,7 @@ returns-in-strategy c =
       rule = passes_by word (codes "strategy") value took.result sets refl (codes "rule") NamesRule self.rule refl refl;
       limit = passes_by word (codes "strategy") value took.result sets refl (codes "limit") WritesLimit self.snap_limit refl refl;
       radius = passes_by word (codes "strategy") value took.result sets refl (codes "radius") WritesRadius self.radius refl refl;
+      rounding = passes_by word (codes "strategy") value took.result sets refl (codes "rounding") NamesRounding self.rounding refl refl;
       usage = took.ensures.usage;
     }
 
@@ -79,6 +84,7 @@ returns-in-precision c =
       rule = passes_by word (codes "precision") value took.result sets refl (codes "rule") NamesRule self.rule refl refl;
       limit = passes_by word (codes "precision") value took.result sets refl (codes "limit") WritesLimit self.snap_limit refl refl;
       radius = passes_by word (codes "precision") value took.result sets refl (codes "radius") WritesRadius self.radius refl refl;
+      rounding = passes_by word (codes "precision") value took.result sets refl (codes "rounding") NamesRounding self.rounding refl refl;
       usage = took.ensures.usage;
     }
 
@@ -98,6 +104,7 @@ returns-in-fill c =
       rule = passes_by word (codes "fill") value took.result sets refl (codes "rule") NamesRule self.rule refl refl;
       limit = passes_by word (codes "fill") value took.result sets refl (codes "limit") WritesLimit self.snap_limit refl refl;
       radius = passes_by word (codes "fill") value took.result sets refl (codes "radius") WritesRadius self.radius refl refl;
+      rounding = passes_by word (codes "fill") value took.result sets refl (codes "rounding") NamesRounding self.rounding refl refl;
       usage = took.ensures.usage;
     }
 
@@ -117,6 +124,7 @@ returns-in-rule c =
       rule = takes_word (codes "rule") NamesRule word value self.rule took.new.slot c.rule.result took.result sets took.ensures.once took.ensures.ok c.rule.ensures;
       limit = passes_by word (codes "rule") value took.result sets refl (codes "limit") WritesLimit self.snap_limit refl refl;
       radius = passes_by word (codes "rule") value took.result sets refl (codes "radius") WritesRadius self.radius refl refl;
+      rounding = passes_by word (codes "rule") value took.result sets refl (codes "rounding") NamesRounding self.rounding refl refl;
       usage = took.ensures.usage;
     }
 
@@ -136,6 +144,7 @@ returns-in-limit c =
       rule = passes_by word (codes "limit") value took.result sets refl (codes "rule") NamesRule self.rule refl refl;
       limit = takes_word (codes "limit") WritesLimit word value self.snap_limit took.new.slot c.snap_limit.result took.result sets took.ensures.once took.ensures.ok c.snap_limit.ensures;
       radius = passes_by word (codes "limit") value took.result sets refl (codes "radius") WritesRadius self.radius refl refl;
+      rounding = passes_by word (codes "limit") value took.result sets refl (codes "rounding") NamesRounding self.rounding refl refl;
       usage = took.ensures.usage;
     }
 
@@ -155,6 +164,27 @@ returns-in-radius c =
       rule = passes_by word (codes "radius") value took.result sets refl (codes "rule") NamesRule self.rule refl refl;
       limit = passes_by word (codes "radius") value took.result sets refl (codes "limit") WritesLimit self.snap_limit refl refl;
       radius = takes_word (codes "radius") WritesRadius word value self.radius took.new.slot c.radius.result took.result sets took.ensures.once took.ensures.ok (squares value c.radius.result c.radius.ensures);
+      rounding = passes_by word (codes "radius") value took.result sets refl (codes "rounding") NamesRounding self.rounding refl refl;
+      usage = took.ensures.usage;
+    }
+
+pub returns-in-rounding : goal.returns-in-rounding
+returns-in-rounding c =
+    let self = c.args.self.now in
+    let word = c.args.word.now in
+    let value = c.in_ok-name.value.now in
+    let took = c.choose-in-rounding in
+    let sets : word ≡ setting (codes "rounding") value = (rw c.in_ok-name.ensures.ok_part at c.name_and_value.ensures).0 ∙ ap (λ name. setting name value) c.in-rounding.is in
+    record {
+      known = is_known took.result (codes "rounding") value word (7, omega arith, refl) sets;
+      engine = passes_by word (codes "rounding") value took.result sets refl (codes "engine") NamesEngine self.engine refl refl;
+      strategy = passes_by word (codes "rounding") value took.result sets refl (codes "strategy") NamesStrategy self.strategy refl refl;
+      precision = passes_by word (codes "rounding") value took.result sets refl (codes "precision") NamesPrecision self.precision refl refl;
+      fill = passes_by word (codes "rounding") value took.result sets refl (codes "fill") NamesFillRule self.fill_rule refl refl;
+      rule = passes_by word (codes "rounding") value took.result sets refl (codes "rule") NamesRule self.rule refl refl;
+      limit = passes_by word (codes "rounding") value took.result sets refl (codes "limit") WritesLimit self.snap_limit refl refl;
+      radius = passes_by word (codes "rounding") value took.result sets refl (codes "radius") WritesRadius self.radius refl refl;
+      rounding = takes_word (codes "rounding") NamesRounding word value self.rounding took.new.slot c.rounding.result took.result sets took.ensures.once took.ensures.ok c.rounding.ensures;
       usage = took.ensures.usage;
     }
 
@@ -192,3 +222,8 @@ pub returns-in_default-clause-radius : goal.returns-in_default-clause-radius
 returns-in_default-clause-radius c =
     let parts : (c.args.word.now ≡ setting c.in_ok-name.name.now c.in_ok-name.value.now) × IsName c.in_ok-name.name.now = rw c.in_ok-name.ensures.ok_part at c.name_and_value.ensures in
     other_name (codes "radius") WritesRadius c.args.word.now c.in_ok-name.name.now c.in_ok-name.value.now c.args.self.now.radius parts.0 parts.1 refl c.in_default.not-radius
+
+pub returns-in_default-clause-rounding : goal.returns-in_default-clause-rounding
+returns-in_default-clause-rounding c =
+    let parts : (c.args.word.now ≡ setting c.in_ok-name.name.now c.in_ok-name.value.now) × IsName c.in_ok-name.name.now = rw c.in_ok-name.ensures.ok_part at c.name_and_value.ensures in
+    other_name (codes "rounding") NamesRounding c.args.word.now c.in_ok-name.name.now c.in_ok-name.value.now c.args.self.now.rounding parts.0 parts.1 refl c.in_default.not-rounding
