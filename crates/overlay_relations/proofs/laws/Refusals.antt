@@ -26,7 +26,7 @@ use Rattle.overlay_contours.specs.declared.fault.ContourFault.TheVariants.{OutOf
 use Rattle.overlay_contours.specs.declared.rounding.Rounding.{Rounding}
 use Rattle.overlay_contours.specs.declared.rounding.Rounding.TheVariants.{HotPixels}
 use Rattle.overlay_relations.specs.Boundaries.{has_inexact_crossing, IsBoundaryOf}
-use Rattle.overlay_relations.specs.Refusals.{IsOverlayRefusal, IsReasonFor, IsRefusal, IsRegionRefusal, of_subject, of_clip, of_boundaries}
+use Rattle.overlay_relations.specs.Refusals.{IsOverlayRefusal, IsReasonFor, IsRefusal, of_subject, of_clip, of_boundaries}
 use Rattle.overlay_relations.specs.declared.fault.RelationFault.{RelationFault}
 use Rattle.overlay_relations.specs.declared.fault.RelationFault.TheVariants.{NotExact, Refused}
 use Rattle.overlay_relations.specs.steps.Outcomes.{IsBoundaryRefusal}
@@ -122,9 +122,3 @@ module _ (least greatest : ℤ) (subject_rule clip_rule : FillRule) (subject cli
       → IsRefusal least greatest subject_rule clip_rule subject clip (Refused cause)
   boundaries_refuse first second a b (OutOfRange shape_type contour point) r = absurd r
   boundaries_refuse first second a b (RefusedContours fault) r = (s, c, reason_of_boundaries first second a b fault r)
-
--- of a region
-pub region_refuses : (least greatest : ℤ) (contours : List (List Point)) → IsTrue (are_in_range least greatest contours) → (fault : RelationFault) → IsBoundaryRefusal Subject contours fault → IsRegionRefusal least greatest contours fault
-region_refuses least greatest contours h (NotExact named) r = (r.0, h, r.1)
-region_refuses least greatest contours h (Refused (OutOfRange shape_type contour point)) r = absurd r
-region_refuses least greatest contours h (Refused (RefusedContours fault)) r = (h, r)
