@@ -12,6 +12,10 @@ pub mod CrossingRegions
 pub mod ExactRegions
 pub mod ExactResults
 pub mod SharedPoints
+pub mod AcrossEdges
+pub mod SharedEdges
+pub mod Matrices
+pub mod CrossingParts
 pub mod ContactOutcomes
 pub mod PointLists
 pub mod Outcomes

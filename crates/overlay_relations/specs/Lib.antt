@@ -1,9 +1,11 @@
 pub mod Relations
 pub mod Boundaries
 pub mod Contacts
+pub mod Matrix
 pub mod Refusals
 pub mod Regions
 -- what only contracts of private functions use
 pub mod steps
 pub mod Laws
 pub mod ContactLaws
+pub mod MatrixLaws

@@ -1,5 +1,5 @@
-// Whether two shapes touch, and whether they are disjoint, without rounding. In the arrangement of both boundaries, which moves nothing where
-// interiors do not meet, shapes share a point exactly if edges of both end in one.
+// Whether two shapes touch, and whether they are disjoint, without rounding. Where interiors do not meet, the arrangement of both
+// boundaries moves nothing, and the shapes share a point exactly if edges of both end in one.
 ghost use Rattle.std.specs.Prelude.{◌≡◌, ◌↔◌, true, IsTrue, List, Contains, IsSortedByKey, OnOk, IfOk, IfErr};
 ghost use Rattle.overlay_geometry.specs.PointOf.{point_of};
 ghost use Rattle.overlay_geometry.specs.Points.{Point, point_cmp};
@@ -150,8 +150,8 @@ fn arranged_contact<I: OverlayInt>(
     alloc: Global,
     arrangement: &mut Arrangement<I>,
 ) -> Result<Contact, Fault>
-    ensures contact { IfOk result (λ contact. (first second : List (List Point)) → IsArrangementOf by_snapping NonZero first second arrangement.old
-        → reach_of arrangement.old ≡ 0 → IsBoundaryContact first second contact) }
+    ensures contact { IfOk result (λ contact. (first second : List (List Point)) →
+        IsArrangementOf by_snapping NonZero first second arrangement.old → reach_of arrangement.old ≡ 0 → IsBoundaryContact first second contact) }
     ensures fault { IfErr result (λ fault. fault ≡ Memory) }
 {
     let common = arrangement.contours(OverlayRule::Intersect)?;

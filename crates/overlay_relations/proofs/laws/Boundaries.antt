@@ -274,16 +274,16 @@ module _ (shape_type : ShapeType) (boundary : List (List Point)) (apart : IsTrue
       lone_part shape_type s.count (AllByRecursion-at (λ (u : WholeSegment). IsLone shape_type u.count) arc s (counts-join (IsLone shape_type) (lone_empty shape_type) (lone_add shape_type) bag (lone_counts shape_type boundary)) m)
       (map_not_empty arc mapped s m)
 
-  tells : (s : WholeSegment) → Has arc s → TellsPlaces arc s
+  pub tells : (s : WholeSegment) → Has arc s → TellsPlaces arc s
   tells s m = All-contains (TellsPlaces arc) arc s (sides_tell_places arc mapped planar balanced) (Contains-from_Has arc s m)
 
-  on_top : (s : WholeSegment) → Has arc s → (p : RationalPoint) → 0 < p.bottom → IsBeside arc s.pair true p → IsClear p → truth (inside p) ≡ part shape_type (side_top arc s)
+  pub on_top : (s : WholeSegment) → Has arc s → (p : RationalPoint) → 0 < p.bottom → IsBeside arc s.pair true p → IsClear p → truth (inside p) ≡ part shape_type (side_top arc s)
   on_top s m p some beside far = sym (winds p some far) ∙ ap (part shape_type) ((tells s m).top p some (beside.0 refl))
 
-  at_bottom : (s : WholeSegment) → Has arc s → (p : RationalPoint) → 0 < p.bottom → IsBeside arc s.pair false p → IsClear p → truth (inside p) ≡ part shape_type (side_bottom arc s)
+  pub at_bottom : (s : WholeSegment) → Has arc s → (p : RationalPoint) → 0 < p.bottom → IsBeside arc s.pair false p → IsClear p → truth (inside p) ≡ part shape_type (side_bottom arc s)
   at_bottom s m p some beside far = sym (winds p some far) ∙ ap (part shape_type) ((tells s m).bottom p some (beside.1 refl))
 
-  sides_differ : (s : WholeSegment) → Has arc s → part shape_type (side_bottom arc s) ≡ part shape_type (side_top arc s) → ⊥
+  pub sides_differ : (s : WholeSegment) → Has arc s → part shape_type (side_bottom arc s) ≡ part shape_type (side_top arc s) → ⊥
   sides_differ s m e = count_some s m (alone _ _ _ (ap (part shape_type) (side_top_is arc arranged balanced s m) ∙ part_sum shape_type (side_bottom arc s) s.count) e)
     where
       alone : (t b c : ℤ) → t ≡ b +ℤ c → b ≡ t → c ≡ pos 0

@@ -24,7 +24,7 @@ use Rattle.overlay_relations.proofs.laws.SteadyWindings.{through_from_order, thr
 abbrev pub IsEnd : Pair → Point → Type 0
 IsEnd g e = (e ≡ g.a) ⊎ (e ≡ g.b)
 
-not_off : (g : Pair) (p : RationalPoint) → 0 < p.bottom → Before g.a g.b → goes_through g p ≡ true → IsOff g p → ⊥
+pub not_off : (g : Pair) (p : RationalPoint) → 0 < p.bottom → Before g.a g.b → goes_through g p ≡ true → IsOff g p → ⊥
 not_off g p some o on off =
     let order = through_order g p some o on in
     elim off [

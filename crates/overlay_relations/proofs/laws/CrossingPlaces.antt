@@ -271,7 +271,7 @@ crossing_turns : (a b p q : Point) → (b.x -ℤ a.x) *ℤ (q.y -ℤ p.y) -ℤ (
 unfolding turn
 crossing_turns a b p q = rw (as_D a.x, as_D a.y, as_D b.x, as_D b.y, as_D p.x, as_D p.y, as_D q.x, as_D q.y) (simp diffs (D-eq _ _ _ _ (omega arith)))
 
-crossing_some : (s t : Pair) → IsTrue (do_cross s t) → by_pair s t ≡ pos 0 → ⊥
+pub crossing_some : (s t : Pair) → IsTrue (do_cross s t) → by_pair s t ≡ pos 0 → ⊥
 crossing_some s t c e = plain _ _ _ (crossing_turns s.a s.b t.a t.b) e (do_cross_parts s t c).0
   where
     plain : (d f g : ℤ) → d ≡ g -ℤ f → d ≡ pos 0 → Opposite f g → ⊥

@@ -48,7 +48,7 @@ in_either xs ys s m = elim (cases_Bool (is_not_empty (winding_at xs s))) [
   ]
 ]
 
-in_shapes : (first second : List (List Point)) (s : Pair) → Has (pairs (join (overlay_segments first second))) s → Has (pairs (join (contour_segments Subject first))) s ⊎ Has (pairs (join (contour_segments Clip second))) s
+pub in_shapes : (first second : List (List Point)) (s : Pair) → Has (pairs (join (overlay_segments first second))) s → Has (pairs (join (contour_segments Subject first))) s ⊎ Has (pairs (join (contour_segments Clip second))) s
 unfolding overlay_segments
 in_shapes first second s m = in_either (contour_segments Subject first) (contour_segments Clip second) s m
 

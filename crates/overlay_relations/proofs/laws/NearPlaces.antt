@@ -261,13 +261,13 @@ strictly_after u p wide zero (inr (e, l)) = absurd (off _ _ l (at_end_level u p 
     off a b l e = omega (arith, ints, l, e)
 
 -- and what lies inside lies inside in x
-inside_after : (s : Pair) (p : RationalPoint) → s.a.x <ℤ s.b.x → IsInside s p → (s.a.x *ℤ pos p.bottom) <ℤ p.x
+pub inside_after : (s : Pair) (p : RationalPoint) → s.a.x <ℤ s.b.x → IsInside s p → (s.a.x *ℤ pos p.bottom) <ℤ p.x
 inside_after s p wide i = elim i.after_a [ inl l ↦ l | inr r ↦ absurd (off _ _ r.1 (at_start_level s p wide i.on_line (sym r.0))) ]
   where
     off : (a b : ℤ) → a <ℤ b → b ≡ a → ⊥
     off a b l e = omega (arith, ints, l, e)
 
-inside_before : (s : Pair) (p : RationalPoint) → s.a.x <ℤ s.b.x → IsInside s p → p.x <ℤ (s.b.x *ℤ pos p.bottom)
+pub inside_before : (s : Pair) (p : RationalPoint) → s.a.x <ℤ s.b.x → IsInside s p → p.x <ℤ (s.b.x *ℤ pos p.bottom)
 inside_before s p wide i = elim i.before_b [ inl l ↦ l | inr r ↦ absurd (off _ _ r.1 (at_end_level s p wide i.on_line r.0)) ]
   where
     off : (a b : ℤ) → a <ℤ b → a ≡ b → ⊥

@@ -159,7 +159,7 @@ near_off_level s v n u fine p (inr (inr e)) = inr (inr e)
 
 -- ---- nothing goes through the place
 
-outside_low : (a b z : ℤ) → z <ℤ a → z <ℤ b → is_between a b z ≡ false
+pub outside_low : (a b z : ℤ) → z <ℤ a → z <ℤ b → is_between a b z ≡ false
 outside_low a b z h l = rw (le-test_false (int_min a b) z (omega (arith, ints, clamps, h, l))) refl
 
 outside_high : (a b z : ℤ) → a <ℤ z → b <ℤ z → is_between a b z ≡ false
@@ -168,13 +168,13 @@ outside_high a b z h l = false_from_ne_true _ (λ t. off a b z h l (le-tested z 
     off : (a b z : ℤ) → a <ℤ z → b <ℤ z → z ≤ℤ int_max a b → ⊥
     off a b z h l k = omega (arith, ints, clamps, h, l, k)
 
-passes_by_turn : (u : Pair) (q : RationalPoint) → (place_turn u q ≡ pos 0 → ⊥) → goes_through u q ≡ false
+pub passes_by_turn : (u : Pair) (q : RationalPoint) → (place_turn u q ≡ pos 0 → ⊥) → goes_through u q ≡ false
 unfolding goes_through
 passes_by_turn u q h =
     and_left (int_eq (place_turn u q) (pos 0) && is_between (u.a.x *ℤ pos q.bottom) (u.b.x *ℤ pos q.bottom) q.x) (is_between (u.a.y *ℤ pos q.bottom) (u.b.y *ℤ pos q.bottom) q.y)
     (and_left (int_eq (place_turn u q) (pos 0)) (is_between (u.a.x *ℤ pos q.bottom) (u.b.x *ℤ pos q.bottom) q.x) (false_from_ne_true _ (λ f. h ((Decides-int_eq (place_turn u q) (pos 0)).0 f))))
 
-passes_in_x : (u : Pair) (q : RationalPoint) → is_between (u.a.x *ℤ pos q.bottom) (u.b.x *ℤ pos q.bottom) q.x ≡ false → goes_through u q ≡ false
+pub passes_in_x : (u : Pair) (q : RationalPoint) → is_between (u.a.x *ℤ pos q.bottom) (u.b.x *ℤ pos q.bottom) q.x ≡ false → goes_through u q ≡ false
 unfolding goes_through
 passes_in_x u q h = false_from_ne_true _ (λ t. both_ways _ h (and_parts (int_eq (place_turn u q) (pos 0)) _ (and_parts _ (is_between (u.a.y *ℤ pos q.bottom) (u.b.y *ℤ pos q.bottom) q.y) t).0).1)
 

@@ -44,7 +44,7 @@ use Rattle.overlay_relations.proofs.laws.ContourEnds.{shared_end, through_end, e
 
 -- ---- near a point on no edge of contours
 
-bag_edge : (contours : List (List Point)) (u : WholeSegment) → Has (contour_segments Subject contours) u → Has (edges contours) u.pair
+pub bag_edge : (contours : List (List Point)) (u : WholeSegment) → Has (contour_segments Subject contours) u → Has (edges contours) u.pair
 bag_edge contours u m = subst (λ (l : List Pair). Has l u.pair) (contour_pairs Subject contours) (Has-map (λ (s : WholeSegment). s.pair) (contour_segments Subject contours) u m)
 
 bag_ordered : (contours : List (List Point)) → IsTrue (are_ordered (contour_segments Subject contours))
@@ -57,7 +57,7 @@ steady_contours contours p some off =
     let box = steady (contour_segments Subject contours) (bag_ordered contours) (shape_balances Subject contours) p some (λ u m. off u.pair (bag_edge contours u m)) in
     (box.0, λ q some_q close. sym (shape_winds Subject contours q) ∙ ap (part Subject) (box.1 q some_q close) ∙ shape_winds Subject contours p)
 
-far_passes : (contours : List (List Point)) (p : RationalPoint) → 0 < p.bottom → IsFar 0 p (edges contours) → (g : Pair) → Has (edges contours) g → goes_through g p ≡ false
+pub far_passes : (contours : List (List Point)) (p : RationalPoint) → 0 < p.bottom → IsFar 0 p (edges contours) → (g : Pair) → Has (edges contours) g → goes_through g p ≡ false
 far_passes contours p some far g m =
     let there = Has-map_out (λ (s : WholeSegment). s.pair) (contour_segments Subject contours) g (subst (λ (l : List Pair). Has l g) (sym (contour_pairs Subject contours)) m) in
     let none = far_lies_on_none (contour_segments Subject contours) p (bag_ordered contours) some (subst (λ (l : List Pair). IsFar 0 p l) (sym (contour_pairs Subject contours)) far) in
@@ -65,13 +65,13 @@ far_passes contours p some far g m =
 
 -- ---- a short way off, to a point on no line of a list
 
-abbrev flat : Pair
+abbrev pub flat : Pair
 flat = record { a = record { x = pos 0; y = pos 0 }; b = record { x = pos 1; y = pos 0 } }
 
-abbrev tall : Pair
+abbrev pub tall : Pair
 tall = record { a = record { x = pos 0; y = pos 0 }; b = record { x = pos 0; y = pos 1 } }
 
-flat_some : by_pair flat tall ≡ pos 0 → ⊥
+pub flat_some : by_pair flat tall ≡ pos 0 → ⊥
 flat_some e = absurd (cc)
 
 module _ (contours : List (List Point)) (lines : List Pair) (each : (g : Pair) → Has lines g → Before g.a g.b) (p : RationalPoint) (some : 0 < p.bottom) (far : IsFar 0 p (edges contours)) (n : ℕ) where
@@ -135,6 +135,10 @@ module _ (contours : List (List Point)) (lines : List Pair) (each : (g : Pair) �
   pub close_off : IsCloseOff
   close_off = off_there (the_way flat tall flat_some lines each true true)
 
+-- near to any point is one on no line
+pub clear_near : (lines : List Pair) → ((g : Pair) → Has lines g → Before g.a g.b) → (p : RationalPoint) → 0 < p.bottom → (n : ℕ) → (q : RationalPoint) × (0 < q.bottom) × IsOffLines lines q × IsCloser n p q
+clear_near lines each p some n = let q = close_off [] lines each p some (λ near. Has-from_Contains [] near.0 near.1) n in (q.place, q.some_place, q.off_lines, q.closer)
+
 -- ---- what is near to the inside of a shape, on no line of a list
 
 module _ (fill_rule : FillRule) (contours : List (List Point)) (inside : Bool) (p : RationalPoint) (some : 0 < p.bottom) (borders : Borders fill_rule contours inside p)
@@ -166,7 +170,7 @@ module _ (boundary : List (List Point)) (apart : IsTrue (list_all (λ s. list_al
   abbrev xs : List WholeSegment
   xs = arc Subject boundary apart inside IsClear around
 
-  edge_segment : (g : Pair) → Has (edges boundary) g → (s : WholeSegment) × Has xs s × (s.pair ≡ g)
+  pub edge_segment : (g : Pair) → Has (edges boundary) g → (s : WholeSegment) × Has xs s × (s.pair ≡ g)
   unfolding contour_segments
   edge_segment g m =
       let out = Has-map_out in_order (directed_edges boundary) g m in
