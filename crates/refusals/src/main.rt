@@ -22,7 +22,7 @@ use crate::lists::{Balance, Join, Snap, Sort, Split};
 use crate::sweeps::Sweep;
 use crate::wholes::{
     Clipped, Contacts, Contours, KeptArrangement, KeptContours, KeptRules, KeptShapes, LineClip,
-    Overlay, Relations, Shapes, Sources,
+    Overlay, Relations, Shapes, Snapped, Sources,
 };
 use i_overlay::build::scan_list::ScanList;
 use i_overlay::build::scan_tree::ScanTree;
@@ -129,10 +129,12 @@ fn tell_splits(rt: HostRuntime, name: &'static str, solver: Solver) -> io::Resul
     tell(rt, "sweep", name, Sweep::new(rt.alloc(), solver))
 }
 
-/// Makes the overlay and the clip under a strategy.
+/// Makes the overlays and the clips under a strategy.
 fn tell_overlays(rt: HostRuntime, name: &'static str, solver: Solver) -> io::Result<()> {
     tell(rt, "overlay", name, Overlay::new(rt.alloc(), solver))?;
-    tell(rt, "clip", name, LineClip::new(rt.alloc(), solver))
+    tell(rt, "clip", name, LineClip::new(rt.alloc(), solver))?;
+    let snapped = Snapped::new(rt.alloc(), solver);
+    tell(rt, "overlay and clip by snap rounding", name, snapped)
 }
 
 /// Makes the builds under a strategy.

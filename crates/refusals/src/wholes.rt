@@ -2,10 +2,10 @@
 use crate::case::{Case, Stop, Summary, mixed_index, mixed_point, refused};
 use crate::graphs::{Builder, INSIDE, LineBuilder, summary_of};
 use crate::shapes::{CUT, NO_DATA, Shape, sides};
-use i_overlay::clip::split_and_build_clip;
+use i_overlay::clip::{split_and_build_clip, split_and_build_clip_by};
 use i_overlay::geom::point::IntPoint;
 use i_overlay::geom::rect::IntRect;
-use i_overlay::overlay::split_and_build_overlay;
+use i_overlay::overlay::{split_and_build_overlay, split_and_build_overlay_by};
 use i_overlay::overlay_core::fill_rule::FillRule;
 use i_overlay::overlay_core::overlay_rule::OverlayRule;
 use i_overlay::overlay_core::solver::Solver;
@@ -15,6 +15,7 @@ use i_overlay::segm::segment::Segment;
 use i_overlay::segm::shape_type::ShapeType;
 use i_overlay::segm::string::ShapeCountString;
 use i_overlay::split::solver::SplitSolver;
+use i_overlay::splitter::Splitter;
 use overlay_contours::arrangement::Arrangement;
 use overlay_contours::contour::{IntContour, IntShape, find_out_of_range};
 use overlay_contours::fault::ContourFault;
@@ -123,6 +124,85 @@ impl Case for LineClip {
     fn try_once(&mut self, alloc: Global) -> Result<Summary, Stop> {
         let squares = self.clip(Shape::Squares, alloc)?;
         Ok(squares.with(self.clip(Shape::Lines(&CUT), alloc)?))
+    }
+}
+
+/// An overlay and a clip by snap rounding, by one splitter and two builders. A refusal leaves the list empty, or the
+/// arrangement.
+#[derive(Drop)]
+pub struct Snapped {
+    splitter: Splitter<i32>,
+    builder: Builder,
+    line_builder: LineBuilder,
+    solver: Solver,
+}
+
+impl Snapped {
+    /// An overlay and a clip under a strategy.
+    pub fn new(alloc: Global, solver: Solver) -> Snapped {
+        Snapped {
+            splitter: Splitter::new(alloc, Rounding::HotPixels),
+            builder: Builder::new(alloc),
+            line_builder: LineBuilder::new(alloc),
+            solver,
+        }
+    }
+
+    /// The union of two squares.
+    fn overlay(&mut self, alloc: Global) -> Result<Summary, Stop> {
+        let mut list: Vec<Segment<ShapeCountBoolean, i32, ()>> = sides(
+            Shape::Squares,
+            NO_DATA,
+            &mut (),
+            alloc,
+        )?;
+        if !is_splittable(&list) {
+            return Err(Stop::Wrong("the input may not be split"));
+        }
+        let built = split_and_build_overlay_by(
+            &mut self.splitter,
+            &mut self.builder,
+            &mut list,
+            &self.solver,
+            FillRule::NonZero,
+            OverlayRule::Union,
+        );
+        match built {
+            Ok(graph) => Ok(summary_of(graph.links(), graph.nodes().len())),
+            Err(fault) => Err(refused(fault, list.is_empty() || is_arranged(&list))),
+        }
+    }
+
+    /// The parts of a line inside polygons.
+    fn clip(&mut self, alloc: Global) -> Result<Summary, Stop> {
+        let mut list: Vec<Segment<ShapeCountString, i32, ()>> = sides(
+            Shape::Lines(&CUT),
+            NO_DATA,
+            &mut (),
+            alloc,
+        )?;
+        if !is_splittable(&list) {
+            return Err(Stop::Wrong("the input may not be split"));
+        }
+        let built = split_and_build_clip_by(
+            &mut self.splitter,
+            &mut self.line_builder,
+            &mut list,
+            &self.solver,
+            FillRule::NonZero,
+            INSIDE,
+        );
+        match built {
+            Ok(graph) => Ok(summary_of(graph.links(), graph.nodes().len())),
+            Err(fault) => Err(refused(fault, list.is_empty() || is_arranged(&list))),
+        }
+    }
+}
+
+impl Case for Snapped {
+    fn try_once(&mut self, alloc: Global) -> Result<Summary, Stop> {
+        let overlay = self.overlay(alloc)?;
+        Ok(overlay.with(self.clip(alloc)?))
     }
 }
 
