@@ -50,7 +50,7 @@ LENGTHS = {
     "docs/DECISIONS.md": 3_080,
     "docs/DIFFERENCES.md": 1_700,
     "docs/GATE.md": 900,
-    "docs/GUIDE.md": 1_500,
+    "docs/GUIDE.md": 1_600,
     "docs/LIMITS.md": 1_200,
     "docs/MEASUREMENTS.md": 1_950,
     "docs/PROGRAMS.md": 1_800,
