@@ -250,8 +250,8 @@ def _load_contours(subject, clip, scale):
 def _load_polygons(subject, clip, scale):
     """An overlay of the library with these polygons, which the caller frees."""
     _check_scale(scale)
-    given = [[[_numbers(ring, scale, f"{where}, ring {index}") for index, ring in enumerate(rings)] for where, rings in _polygons(polygons, name)]
-             for name, polygons in [("subject", subject), ("clip", clip)]]
+    given = [[[_numbers(ring, scale, f"{where}, ring {index}") for index, ring in enumerate(rings)]
+              for where, rings in _polygons(polygons, name)] for name, polygons in [("subject", subject), ("clip", clip)]]
 
     def add(handle):
         for shape, polygons in enumerate(given):
@@ -305,7 +305,8 @@ def _polygons_of(geometry, where):
         return [] if geometry["geometry"] is None else _polygons_of(_geometry(geometry["geometry"]), where)
     members = {"GeometryCollection": "geometries", "FeatureCollection": "features"}
     if kind in members:
-        return [found for index, member in enumerate(geometry[members[kind]]) for found in _polygons_of(_geometry(member), f"{where}, member {index}")]
+        return [found for index, member in enumerate(geometry[members[kind]])
+                for found in _polygons_of(_geometry(member), f"{where}, member {index}")]
     raise TypeError(f"{where}: a geometry of type {_shown(kind)} has no polygons")
 
 
@@ -501,8 +502,8 @@ def same_region(subject, clip, fill="nonzero", scale=None):
 
 
 def touches(subject, clip, fill="nonzero", scale=None):
-    """Whether two lists of contours share a point, inside or on their boundaries, and no point is inside both. Arguments and errors are those of
-    `interiors_meet`.
+    """Whether two lists of contours share a point, inside or on their boundaries, and no point is inside both. Arguments and errors are
+    those of `interiors_meet`.
 
     >>> touches([[(0, 0), (4, 0), (4, 4), (0, 4)]], [[(4, 4), (6, 4), (6, 6), (4, 6)]])
     True
@@ -511,7 +512,8 @@ def touches(subject, clip, fill="nonzero", scale=None):
 
 
 def is_disjoint(subject, clip, fill="nonzero", scale=None):
-    """Whether two lists of contours share no point, neither inside nor on their boundaries. Arguments and errors are those of `interiors_meet`.
+    """Whether two lists of contours share no point, neither inside nor on their boundaries. Arguments and errors are those of
+    `interiors_meet`.
 
     >>> is_disjoint([[(0, 0), (4, 0), (4, 4), (0, 4)]], [[(4, 4), (6, 4), (6, 6), (4, 6)]])
     False

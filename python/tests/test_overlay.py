@@ -108,20 +108,24 @@ class Polygons(unittest.TestCase):
         one = {"type": "Polygon", "coordinates": rings[0]}
         two = Geometry("MultiPolygon", coordinates=rings)
         nothing = {"type": "Feature", "geometry": None}
-        collections = [two, {"type": "Feature", "geometry": two.__geo_interface__}, {"type": "FeatureCollection", "features": [nothing, {"type": "Feature", "geometry": two}]},
-                       {"type": "GeometryCollection", "geometries": [two]}, [one, [square(20, 22)]], [Geometry("Feature", geometry=one), ([*square(20, 22)], [])]]
+        collections = [two, {"type": "Feature", "geometry": two.__geo_interface__},
+                       {"type": "FeatureCollection", "features": [nothing, {"type": "Feature", "geometry": two}]},
+                       {"type": "GeometryCollection", "geometries": [two]}, [one, [square(20, 22)]],
+                       [Geometry("Feature", geometry=one), ([*square(20, 22)], [])]]
         wanted = overlay_polygons([list(it) for it in rings], [], "subject")
         self.assertEqual([len(holes) for _, holes in wanted], [1, 0])
         for given in collections:
             self.assertEqual(overlay_polygons(given, [], "subject"), wanted)
             self.assertEqual(overlay_polygons([], given, "clip"), wanted)
-        self.assertEqual(overlay_polygons([[[(0.0, 0.0), (0.5, 0.0), (0.5, 0.25)]]], [], "union", scale=8), [([(0.0, 0.0), (0.5, 0.0), (0.5, 0.25)], [])])
+        triangle = [(0.0, 0.0), (0.5, 0.0), (0.5, 0.25)]
+        self.assertEqual(overlay_polygons([[triangle]], [], "union", scale=8), [(triangle, [])])
 
     def test_mistakes(self):
         for error, text, given in [
                 (TypeError, "the subject: 5 is no list of polygons", 5),
                 (TypeError, "polygon 1 of the subject: 5 is no pair of a boundary and its holes, and no list of rings", [[], 5]),
-                (TypeError, "polygon 0 of the subject: a geometry of type 'LineString' has no polygons", [Geometry("LineString", coordinates=[])]),
+                (TypeError, "polygon 0 of the subject: a geometry of type 'LineString' has no polygons",
+                 [Geometry("LineString", coordinates=[])]),
                 (TypeError, "the subject, member 1: a geometry of type 'Point' has no polygons",
                  {"type": "GeometryCollection", "geometries": [{"type": "MultiPolygon", "coordinates": []}, {"type": "Point"}]}),
                 (ValueError, "the subject, member 0, ring 1, point 2: (1, 2, 3) has 3 numbers, not two",
