@@ -37,22 +37,22 @@ pub record AreRegions (first second : List (List Point)) (both either subject_al
 -- common edge; both boundaries where the regions of the shapes have a common point.
 abbrev pub MatrixByRegions : Type 0
 MatrixByRegions =
-    (fill_rule : FillRule) (subject clip first second both either subject_alone clip_alone of_subject of_clip : List (List Point)) →
-    IsBoundaryOf fill_rule subject first → IsBoundaryOf fill_rule clip second →
+    (subject_rule clip_rule : FillRule) (subject clip first second both either subject_alone clip_alone of_subject of_clip : List (List Point)) →
+    IsBoundaryOf subject_rule subject first → IsBoundaryOf clip_rule clip second →
     AreRegions first second both either subject_alone clip_alone of_subject of_clip →
-    (PartsMeet fill_rule fill_rule subject clip interior interior ↔ (both ≡ [] → ⊥))
-    × (PartsMeet fill_rule fill_rule subject clip interior border ↔ HaveCommonEdge both subject_alone)
-    × (PartsMeet fill_rule fill_rule subject clip interior exterior ↔ (subject_alone ≡ [] → ⊥))
-    × (PartsMeet fill_rule fill_rule subject clip border interior ↔ HaveCommonEdge both clip_alone)
-    × (PartsMeet fill_rule fill_rule subject clip border border ↔ HaveCommonPoint of_subject of_clip)
-    × (PartsMeet fill_rule fill_rule subject clip border exterior ↔ HaveCommonEdge either subject_alone)
-    × (PartsMeet fill_rule fill_rule subject clip exterior interior ↔ (clip_alone ≡ [] → ⊥))
-    × (PartsMeet fill_rule fill_rule subject clip exterior border ↔ HaveCommonEdge either clip_alone)
-    × PartsMeet fill_rule fill_rule subject clip exterior exterior
+    (PartsMeet subject_rule clip_rule subject clip interior interior ↔ (both ≡ [] → ⊥))
+    × (PartsMeet subject_rule clip_rule subject clip interior border ↔ HaveCommonEdge both subject_alone)
+    × (PartsMeet subject_rule clip_rule subject clip interior exterior ↔ (subject_alone ≡ [] → ⊥))
+    × (PartsMeet subject_rule clip_rule subject clip border interior ↔ HaveCommonEdge both clip_alone)
+    × (PartsMeet subject_rule clip_rule subject clip border border ↔ HaveCommonPoint of_subject of_clip)
+    × (PartsMeet subject_rule clip_rule subject clip border exterior ↔ HaveCommonEdge either subject_alone)
+    × (PartsMeet subject_rule clip_rule subject clip exterior interior ↔ (clip_alone ≡ [] → ⊥))
+    × (PartsMeet subject_rule clip_rule subject clip exterior border ↔ HaveCommonEdge either clip_alone)
+    × PartsMeet subject_rule clip_rule subject clip exterior exterior
 
 -- Where the boundaries cross at a point that is not whole, each part of the one shape meets each part of the other.
 abbrev pub CrossingBoundariesMeetAll : Type 0
 CrossingBoundariesMeetAll =
-    (fill_rule : FillRule) (subject clip first second : List (List Point)) →
-    IsBoundaryOf fill_rule subject first → IsBoundaryOf fill_rule clip second →
-    IsTrue (has_inexact_crossing first second) → (of_subject of_clip : Part) → PartsMeet fill_rule fill_rule subject clip of_subject of_clip
+    (subject_rule clip_rule : FillRule) (subject clip first second : List (List Point)) →
+    IsBoundaryOf subject_rule subject first → IsBoundaryOf clip_rule clip second →
+    IsTrue (has_inexact_crossing first second) → (of_subject of_clip : Part) → PartsMeet subject_rule clip_rule subject clip of_subject of_clip

@@ -213,33 +213,33 @@ module _ (Clear : RationalPoint → Type 0) (value : RationalPoint → Bool) (re
 
 -- ---- two boundaries that cross
 
-module _ (fill_rule : FillRule) (subject clip first second : List (List Point)) (a : IsBoundaryOf fill_rule subject first) (b : IsBoundaryOf fill_rule clip second) where
+module _ (subject_rule clip_rule : FillRule) (subject clip first second : List (List Point)) (a : IsBoundaryOf subject_rule subject first) (b : IsBoundaryOf clip_rule clip second) where
   abbrev IsClear : RationalPoint → Type 0
-  IsClear p = Clear fill_rule subject clip first second a b p
+  IsClear p = Clear subject_rule clip_rule subject clip first second a b p
 
   abbrev all_lines : List Pair
-  all_lines = lines fill_rule subject clip first second a b
+  all_lines = lines subject_rule clip_rule subject clip first second a b
 
   all_ordered : (g : Pair) → Has all_lines g → Before g.a g.b
-  all_ordered = lines_ordered fill_rule subject clip first second a b
+  all_ordered = lines_ordered subject_rule clip_rule subject clip first second a b
 
   off_lines : (q : RationalPoint) → IsOffLines all_lines q → IsClear q
-  off_lines = clear_off fill_rule subject clip first second a b
+  off_lines = clear_off subject_rule clip_rule subject clip first second a b
 
-  of_first : IsRegion IsClear (is_in fill_rule subject) first
-  of_first = record { apart = a.apart; once = a.once; around = λ p some far. around_shape fill_rule subject first a p some (far_subject fill_rule subject clip first second a b p far) }
+  of_first : IsRegion IsClear (is_in subject_rule subject) first
+  of_first = record { apart = a.apart; once = a.once; around = λ p some far. around_shape subject_rule subject first a p some (far_subject subject_rule clip_rule subject clip first second a b p far) }
 
-  of_second : IsRegion IsClear (is_in fill_rule clip) second
-  of_second = record { apart = b.apart; once = b.once; around = λ p some far. around_shape fill_rule clip second b p some (far_clip fill_rule subject clip first second a b p far) }
+  of_second : IsRegion IsClear (is_in clip_rule clip) second
+  of_second = record { apart = b.apart; once = b.once; around = λ p some far. around_shape clip_rule clip second b p some (far_clip subject_rule clip_rule subject clip first second a b p far) }
 
   -- an edge through a point has it on the boundary of its shape
-  on_boundary : (contours region : List (List Point)) → IsRegion IsClear (λ p. is_in fill_rule contours p) region → ((q : RationalPoint) → IsClear q → IsFar 0 q (edges contours)) → (g : Pair) → Has (edges region) g → (p : RationalPoint) → 0 < p.bottom → goes_through g p ≡ true → IsOnBoundary fill_rule contours p
-  on_boundary contours region is far g m p some on inside n =
+  on_boundary : (fill_rule : FillRule) (contours region : List (List Point)) → IsRegion IsClear (λ p. is_in fill_rule contours p) region → ((q : RationalPoint) → IsClear q → IsFar 0 q (edges contours)) → (g : Pair) → Has (edges region) g → (p : RationalPoint) → 0 < p.bottom → goes_through g p ≡ true → IsOnBoundary fill_rule contours p
+  on_boundary fill_rule contours region is far g m p some on inside n =
       let q = edge_borders region is.apart is.once (λ p. is_in fill_rule contours p) IsClear is.around g m p some on all_lines all_ordered off_lines inside n in
       record { point = q.0; some = q.1; closer = q.3; off_edges = far_alone q.0 contours (far q.0 (off_lines q.0 q.2)); here = q.4 }
 
   -- off a boundary, a point is of the kind of one clear point near by
-  module _ (contours region : List (List Point)) (is : IsRegion IsClear (λ p. is_in fill_rule contours p) region) (p : RationalPoint) (some : 0 < p.bottom) (off : (g : Pair) → Has (edges region) g → goes_through g p ≡ false) where
+  module _ (fill_rule : FillRule) (contours region : List (List Point)) (is : IsRegion IsClear (λ p. is_in fill_rule contours p) region) (p : RationalPoint) (some : 0 < p.bottom) (off : (g : Pair) → Has (edges region) g → goes_through g p ≡ false) where
     box : (n : ℕ) × ((q : RationalPoint) → 0 < q.bottom → IsCloser n p q → winding_number region q ≡ winding_number region p)
     box = steady_contours region p some off
 
@@ -263,28 +263,28 @@ module _ (fill_rule : FillRule) (subject clip first second : List (List Point)) 
         other false e = both_ways true (sym e) refl
 
   -- the boundary of one shape, and an open part of the other
-  border_with : (contours others region further : List (List Point)) → IsRegion IsClear (λ p. is_in fill_rule contours p) region → ((q : RationalPoint) → IsClear q → IsFar 0 q (edges contours)) → IsRegion IsClear (λ p. is_in fill_rule others p) further
-      → (s t : Pair) → Has (edges region) s → Has (edges further) t → IsTrue (do_cross s t) → (wanted : Bool) → (p : RationalPoint) × (0 < p.bottom) × IsOnBoundary fill_rule contours p × IsAt fill_rule others (part_of fill_rule subject clip first second a b wanted) p
-  border_with contours others region further is far other s t m k c wanted =
-      let u = edge_segment further other.apart other.once (λ p. is_in fill_rule others p) IsClear other.around t k in
+  border_with : (fill_rule other_rule : FillRule) (contours others region further : List (List Point)) → IsRegion IsClear (λ p. is_in fill_rule contours p) region → ((q : RationalPoint) → IsClear q → IsFar 0 q (edges contours)) → IsRegion IsClear (λ p. is_in other_rule others p) further
+      → (s t : Pair) → Has (edges region) s → Has (edges further) t → IsTrue (do_cross s t) → (wanted : Bool) → (p : RationalPoint) × (0 < p.bottom) × IsOnBoundary fill_rule contours p × IsAt other_rule others (part_of subject_rule clip_rule subject clip first second a b wanted) p
+  border_with fill_rule other_rule contours others region further is far other s t m k c wanted =
+      let u = edge_segment further other.apart other.once (λ p. is_in other_rule others p) IsClear other.around t k in
       let os = edges_ordered region s m in
       let cross = subst (λ (r : Pair). IsTrue (do_cross s r)) (sym u.2) c in
       let order_u = subst (λ (r : Pair). Before r.a r.b) (sym u.2) (edges_ordered further t k) in
       let x = inside_both s u.0.pair os order_u cross in
       let turned = λ (e : turn_by u.0.pair (along s true) ≡ pos 0). crossing_some u.0.pair s (sym (do_cross_back s u.0.pair) ∙ cross) e in
-      let at_up = λ (up : Bool). at IsClear (λ p. is_in fill_rule others p) further other u.0 u.1 s os x.place x.some x.first x.second turned up in
-      let some = at_some IsClear (λ p. is_in fill_rule others p) further other u.0 u.1 s os x.place x.some x.first x.second turned in
-      let on = at_on IsClear (λ p. is_in fill_rule others p) further other u.0 u.1 s os x.place x.some x.first x.second turned in
-      let off = at_off IsClear (λ p. is_in fill_rule others p) further other u.0 u.1 s os x.place x.some x.first x.second turned in
-      let kind_at = λ (up : Bool). kind others further other (at_up up) (some up) (off up) in
-      let take : (up : Bool) → kind_at up ≡ wanted → (p : RationalPoint) × (0 < p.bottom) × IsOnBoundary fill_rule contours p × IsAt fill_rule others (part_of fill_rule subject clip first second a b wanted) p = λ up e. (
+      let at_up = λ (up : Bool). at IsClear (λ p. is_in other_rule others p) further other u.0 u.1 s os x.place x.some x.first x.second turned up in
+      let some = at_some IsClear (λ p. is_in other_rule others p) further other u.0 u.1 s os x.place x.some x.first x.second turned in
+      let on = at_on IsClear (λ p. is_in other_rule others p) further other u.0 u.1 s os x.place x.some x.first x.second turned in
+      let off = at_off IsClear (λ p. is_in other_rule others p) further other u.0 u.1 s os x.place x.some x.first x.second turned in
+      let kind_at = λ (up : Bool). kind other_rule others further other (at_up up) (some up) (off up) in
+      let take : (up : Bool) → kind_at up ≡ wanted → (p : RationalPoint) × (0 < p.bottom) × IsOnBoundary fill_rule contours p × IsAt other_rule others (part_of subject_rule clip_rule subject clip first second a b wanted) p = λ up e. (
         at_up up,
         some up,
-        on_boundary contours region is far s m (at_up up) (some up) (on up),
-        open_at fill_rule subject clip first second a b others wanted (at_up up) (subst (λ (v : Bool). Borders fill_rule others (not v) (at_up up) → ⊥) e (of_kind others further other (at_up up) (some up) (off up))),
+        on_boundary fill_rule contours region is far s m (at_up up) (some up) (on up),
+        open_at subject_rule clip_rule subject clip first second a b other_rule others wanted (at_up up) (subst (λ (v : Bool). Borders other_rule others (not v) (at_up up) → ⊥) e (of_kind other_rule others further other (at_up up) (some up) (off up))),
       ) in
-      elim (either (kind_at true) (kind_at false) wanted (λ e. winds_differ IsClear (λ p. is_in fill_rule others p) further other u.0 u.1 s os x.place x.some x.first x.second turned
-      (winds_by_kind others further other (at_up true) (some true) (off true) ∙ ap truth e ∙ sym (winds_by_kind others further other (at_up false) (some false) (off false))))) [
+      elim (either (kind_at true) (kind_at false) wanted (λ e. winds_differ IsClear (λ p. is_in other_rule others p) further other u.0 u.1 s os x.place x.some x.first x.second turned
+      (winds_by_kind other_rule others further other (at_up true) (some true) (off true) ∙ ap truth e ∙ sym (winds_by_kind other_rule others further other (at_up false) (some false) (off false))))) [
         | inl e ↦ take true e
         | inr e ↦ take false e
       ]
@@ -317,25 +317,25 @@ module _ (fill_rule : FillRule) (subject clip first second : List (List Point)) 
       ]
 
   module _ (h : IsTrue (has_inexact_crossing first second)) where
-    both_open : (kind other : Bool) → PartsMeet fill_rule fill_rule subject clip (part_of fill_rule subject clip first second a b kind) (part_of fill_rule subject clip first second a b other)
-    both_open kind other = meet_of_point fill_rule subject clip first second a b kind other (crossing_boundaries_meet fill_rule fill_rule subject clip first second a b h kind other)
+    both_open : (kind other : Bool) → PartsMeet subject_rule clip_rule subject clip (part_of subject_rule clip_rule subject clip first second a b kind) (part_of subject_rule clip_rule subject clip first second a b other)
+    both_open kind other = meet_of_point subject_rule clip_rule subject clip first second a b kind other (crossing_boundaries_meet subject_rule clip_rule subject clip first second a b h kind other)
 
-    border_open : (wanted : Bool) → PartsMeet fill_rule fill_rule subject clip border (part_of fill_rule subject clip first second a b wanted)
+    border_open : (wanted : Bool) → PartsMeet subject_rule clip_rule subject clip border (part_of subject_rule clip_rule subject clip first second a b wanted)
     border_open wanted =
         let c = crossing_edges h in
-        let p = border_with subject clip first second of_first (far_subject fill_rule subject clip first second a b) of_second c.s c.t c.of_s c.of_t c.cross wanted in
+        let p = border_with subject_rule clip_rule subject clip first second of_first (far_subject subject_rule clip_rule subject clip first second a b) of_second c.s c.t c.of_s c.of_t c.cross wanted in
         record { point = p.0; some = p.1; at_subject = p.2; at_clip = p.3 }
 
-    open_border : (wanted : Bool) → PartsMeet fill_rule fill_rule subject clip (part_of fill_rule subject clip first second a b wanted) border
+    open_border : (wanted : Bool) → PartsMeet subject_rule clip_rule subject clip (part_of subject_rule clip_rule subject clip first second a b wanted) border
     open_border wanted =
         let c = crossing_edges h in
-        let p = border_with clip subject second first of_second (far_clip fill_rule subject clip first second a b) of_first c.t c.s c.of_t c.of_s (sym (do_cross_back c.s c.t) ∙ c.cross) wanted in
+        let p = border_with clip_rule subject_rule clip subject second first of_second (far_clip subject_rule clip_rule subject clip first second a b) of_first c.t c.s c.of_t c.of_s (sym (do_cross_back c.s c.t) ∙ c.cross) wanted in
         record { point = p.0; some = p.1; at_subject = p.3; at_clip = p.2 }
 
     on_pair : (s : Pair) (x : RationalPoint) → 0 < x.bottom → Before s.a s.b → IsInside s x → goes_through s x ≡ true
     on_pair s x some o i = through_from_order s x some o i.on_line (UpTo-Before _ _ i.after_a) (UpTo-Before _ _ i.before_b)
 
-    both_borders : PartsMeet fill_rule fill_rule subject clip border border
+    both_borders : PartsMeet subject_rule clip_rule subject clip border border
     both_borders =
         let c = crossing_edges h in
         let os = edges_ordered first c.s c.of_s in
@@ -344,11 +344,11 @@ module _ (fill_rule : FillRule) (subject clip first second : List (List Point)) 
         record {
           point = x.place;
           some = x.some;
-          at_subject = on_boundary subject first of_first (far_subject fill_rule subject clip first second a b) c.s c.of_s x.place x.some (on_pair c.s x.place x.some os x.first);
-          at_clip = on_boundary clip second of_second (far_clip fill_rule subject clip first second a b) c.t c.of_t x.place x.some (on_pair c.t x.place x.some ot x.second);
+          at_subject = on_boundary subject_rule subject first of_first (far_subject subject_rule clip_rule subject clip first second a b) c.s c.of_s x.place x.some (on_pair c.s x.place x.some os x.first);
+          at_clip = on_boundary clip_rule clip second of_second (far_clip subject_rule clip_rule subject clip first second a b) c.t c.of_t x.place x.some (on_pair c.t x.place x.some ot x.second);
         }
 
-    all_parts : (of_subject of_clip : Part) → PartsMeet fill_rule fill_rule subject clip of_subject of_clip
+    all_parts : (of_subject of_clip : Part) → PartsMeet subject_rule clip_rule subject clip of_subject of_clip
     all_parts interior interior = both_open true true
     all_parts interior border = open_border true
     all_parts interior exterior = both_open true false
@@ -360,4 +360,4 @@ module _ (fill_rule : FillRule) (subject clip first second : List (List Point)) 
     all_parts exterior exterior = both_open false false
 
 pub crossing_boundaries_meet_all : CrossingBoundariesMeetAll
-crossing_boundaries_meet_all fill_rule subject clip first second a b h = all_parts fill_rule subject clip first second a b h
+crossing_boundaries_meet_all subject_rule clip_rule subject clip first second a b h = all_parts subject_rule clip_rule subject clip first second a b h

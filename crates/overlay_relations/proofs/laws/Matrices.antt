@@ -226,12 +226,12 @@ module _ (fill_rule : FillRule) (contours : List (List Point)) (n : ℕ) (wide :
 
 -- ---- regions
 
-module _ (fill_rule : FillRule) (subject clip first second : List (List Point)) (a : IsBoundaryOf fill_rule subject first) (b : IsBoundaryOf fill_rule clip second) where
+module _ (subject_rule clip_rule : FillRule) (subject clip first second : List (List Point)) (a : IsBoundaryOf subject_rule subject first) (b : IsBoundaryOf clip_rule clip second) where
   abbrev in_subject : RationalPoint → Bool
-  in_subject p = is_in fill_rule subject p
+  in_subject p = is_in subject_rule subject p
 
   abbrev in_clip : RationalPoint → Bool
-  in_clip p = is_in fill_rule clip p
+  in_clip p = is_in clip_rule clip p
 
   abbrev pub Clear : RationalPoint → Type 0
   Clear p = IsBeyond 0 subject clip p
@@ -257,8 +257,8 @@ module _ (fill_rule : FillRule) (subject clip first second : List (List Point)) 
     once = o.once;
     around = λ p some far.
         o.bound.winds p some
-        (far_both p (edges first) (edges second) (far_boundary fill_rule subject first a p (far_subject p far)) (far_boundary fill_rule clip second b p (far_clip p far)))
-        ∙ ap₂ (λ (m n : ℤ). truth (holds rule (is_inside NonZero m) (is_inside NonZero n)) -ℤ truth (holds rule false false)) (around_shape fill_rule subject first a p some (far_subject p far)) (around_shape fill_rule clip second b p some (far_clip p far))
+        (far_both p (edges first) (edges second) (far_boundary subject_rule subject first a p (far_subject p far)) (far_boundary clip_rule clip second b p (far_clip p far)))
+        ∙ ap₂ (λ (m n : ℤ). truth (holds rule (is_inside NonZero m) (is_inside NonZero n)) -ℤ truth (holds rule false false)) (around_shape subject_rule subject first a p some (far_subject p far)) (around_shape clip_rule clip second b p some (far_clip p far))
         ∙ ap₂ (λ (v w : Bool). truth (holds rule v w) -ℤ truth (holds rule false false)) (nonzero_truth (in_subject p)) (nonzero_truth (in_clip p))
         ∙ ap (λ (v : Bool). truth (holds rule (in_subject p) (in_clip p)) -ℤ truth v) outside
         ∙ less_none (truth (holds rule (in_subject p) (in_clip p)));
@@ -280,24 +280,24 @@ module _ (fill_rule : FillRule) (subject clip first second : List (List Point)) 
   part_of true = interior
   part_of false = exterior
 
-  pub open_at : (contours : List (List Point)) (kind : Bool) (p : RationalPoint) → (Borders fill_rule contours (not kind) p → ⊥) → IsAt fill_rule contours (part_of kind) p
-  open_at contours true p h = h
-  open_at contours false p h = h
+  pub open_at : (fill_rule : FillRule) (contours : List (List Point)) (kind : Bool) (p : RationalPoint) → (Borders fill_rule contours (not kind) p → ⊥) → IsAt fill_rule contours (part_of kind) p
+  open_at fill_rule contours true p h = h
+  open_at fill_rule contours false p h = h
 
-  at_open : (contours : List (List Point)) (kind : Bool) (p : RationalPoint) → IsAt fill_rule contours (part_of kind) p → Borders fill_rule contours (not kind) p → ⊥
-  at_open contours true p h = h
-  at_open contours false p h = h
+  at_open : (fill_rule : FillRule) (contours : List (List Point)) (kind : Bool) (p : RationalPoint) → IsAt fill_rule contours (part_of kind) p → Borders fill_rule contours (not kind) p → ⊥
+  at_open fill_rule contours true p h = h
+  at_open fill_rule contours false p h = h
 
   other_kind : (kind : Bool) → kind ≡ not kind → ⊥
   other_kind true e = both_ways false refl (sym e)
   other_kind false e = both_ways true (sym e) refl
 
-  pub meet_of_point : (kind other : Bool) → HasPoint fill_rule fill_rule subject clip kind other → PartsMeet fill_rule fill_rule subject clip (part_of kind) (part_of other)
+  pub meet_of_point : (kind other : Bool) → HasPoint subject_rule clip_rule subject clip kind other → PartsMeet subject_rule clip_rule subject clip (part_of kind) (part_of other)
   meet_of_point kind other p = record {
     point = p.point;
     some = p.some;
-    at_subject = open_at subject kind p.point (keeps_kind fill_rule subject p.point p.some (far_subject p.point p.off_edges) kind (not kind) p.of_subject (other_kind kind));
-    at_clip = open_at clip other p.point (keeps_kind fill_rule clip p.point p.some (far_clip p.point p.off_edges) other (not other) p.of_clip (other_kind other));
+    at_subject = open_at subject_rule subject kind p.point (keeps_kind subject_rule subject p.point p.some (far_subject p.point p.off_edges) kind (not kind) p.of_subject (other_kind kind));
+    at_clip = open_at clip_rule clip other p.point (keeps_kind clip_rule clip p.point p.some (far_clip p.point p.off_edges) other (not other) p.of_clip (other_kind other));
   }
 
   -- ---- regions of both shapes
@@ -310,8 +310,8 @@ module _ (fill_rule : FillRule) (subject clip first second : List (List Point)) 
     rc = region_of Clip of_clip refl oc.overlay
 
     -- a point on the boundary of a shape is on an edge of its region
-    on_edge : (contours region : List (List Point)) → IsRegion Clear (λ p. is_in fill_rule contours p) region → (p : RationalPoint) (some : 0 < p.bottom) → IsOnBoundary fill_rule contours p → (g : Pair) × Has (edges region) g × (goes_through g p ≡ true)
-    on_edge contours region is p some on = elim (cases_Bool (list_any (λ g. goes_through g p) (edges region))) [
+    on_edge : (fill_rule : FillRule) (contours region : List (List Point)) → IsRegion Clear (λ p. is_in fill_rule contours p) region → (p : RationalPoint) (some : 0 < p.bottom) → IsOnBoundary fill_rule contours p → (g : Pair) × Has (edges region) g × (goes_through g p ≡ true)
+    on_edge fill_rule contours region is p some on = elim (cases_Bool (list_any (λ g. goes_through g p) (edges region))) [
       | inl h ↦ Has-from_list_any (λ g. goes_through g p) (edges region) h
       | inr h ↦
           let box = steady_contours region p some (λ g m. list_any-at (λ g. goes_through g p) (edges region) g h m) in
@@ -323,32 +323,32 @@ module _ (fill_rule : FillRule) (subject clip first second : List (List Point)) 
           ∙ d.here) refl)
     ]
 
-    borders_meet : PartsMeet fill_rule fill_rule subject clip border border → HaveCommonPoint of_subject of_clip
+    borders_meet : PartsMeet subject_rule clip_rule subject clip border border → HaveCommonPoint of_subject of_clip
     borders_meet p =
-        let g = on_edge subject of_subject rs p.point p.some p.at_subject in
-        let h = on_edge clip of_clip rc p.point p.some p.at_clip in
+        let g = on_edge subject_rule subject of_subject rs p.point p.some p.at_subject in
+        let h = on_edge clip_rule clip of_clip rc p.point p.some p.at_clip in
         let e = shared_end g.0 h.0 p.point p.some (edges_ordered of_subject g.0 g.1) (edges_ordered of_clip h.0 h.1) g.2 h.2
         (list_all-at (λ t. are_apart g.0 t) (edges of_clip) h.0 (list_all-at (λ s. list_all (λ t. are_apart s t) (edges of_clip)) (edges of_subject) g.0 (edges_apart segments planar Subject Clip of_subject of_clip os oc) g.1) h.1) in
         (e.0, Contains-from_Has (all_points of_subject) e.0 (end_is_point of_subject g.0 e.0 g.1 e.1), Contains-from_Has (all_points of_clip) e.0 (end_is_point of_clip h.0 e.0 h.1 e.2))
 
-    at_point : (contours region : List (List Point)) → IsRegion Clear (λ p. is_in fill_rule contours p) region → ((q : RationalPoint) → Clear q → IsFar 0 q (edges contours)) → (v : Point) (g : Pair) → Has (edges region) g → goes_through g (whole_point v) ≡ true → IsOnBoundary fill_rule contours (whole_point v)
-    at_point contours region is far v g m on inside n =
+    at_point : (fill_rule : FillRule) (contours region : List (List Point)) → IsRegion Clear (λ p. is_in fill_rule contours p) region → ((q : RationalPoint) → Clear q → IsFar 0 q (edges contours)) → (v : Point) (g : Pair) → Has (edges region) g → goes_through g (whole_point v) ≡ true → IsOnBoundary fill_rule contours (whole_point v)
+    at_point fill_rule contours region is far v g m on inside n =
         let q = edge_borders region is.apart is.once (λ p. is_in fill_rule contours p) Clear is.around g m (whole_point v) (omega arith) on lines lines_ordered clear_off inside n in
         record { point = q.0; some = q.1; closer = q.3; off_edges = far_alone q.0 contours (far q.0 (clear_off q.0 q.2)); here = q.4 }
 
-    borders_there : HaveCommonPoint of_subject of_clip → PartsMeet fill_rule fill_rule subject clip border border
+    borders_there : HaveCommonPoint of_subject of_clip → PartsMeet subject_rule clip_rule subject clip border border
     borders_there (v, m, k) =
         let g = point_is_end of_subject os.overlay.bound.proper v (Has-from_Contains (all_points of_subject) v m) in
         let h = point_is_end of_clip oc.overlay.bound.proper v (Has-from_Contains (all_points of_clip) v k) in
         record {
           point = whole_point v;
           some = omega arith;
-          at_subject = at_point subject of_subject rs far_subject v g.0 g.1 (through_end g.0 v (edges_ordered of_subject g.0 g.1) g.2);
-          at_clip = at_point clip of_clip rc far_clip v h.0 h.1 (through_end h.0 v (edges_ordered of_clip h.0 h.1) h.2);
+          at_subject = at_point subject_rule subject of_subject rs far_subject v g.0 g.1 (through_end g.0 v (edges_ordered of_subject g.0 g.1) g.2);
+          at_clip = at_point clip_rule clip of_clip rc far_clip v h.0 h.1 (through_end h.0 v (edges_ordered of_clip h.0 h.1) h.2);
         }
 
     -- a point in an open part of a shape has points of that kind near by, on no line
-    module _ (contours region : List (List Point)) (is : IsRegion Clear (λ p. is_in fill_rule contours p) region) (far : (q : RationalPoint) → Clear q → IsFar 0 q (edges contours)) (kind : Bool) (p : RationalPoint) (some : 0 < p.bottom) (no : Borders fill_rule contours (not kind) p → ⊥) where
+    module _ (fill_rule : FillRule) (contours region : List (List Point)) (is : IsRegion Clear (λ p. is_in fill_rule contours p) region) (far : (q : RationalPoint) → Clear q → IsFar 0 q (edges contours)) (kind : Bool) (p : RationalPoint) (some : 0 < p.bottom) (no : Borders fill_rule contours (not kind) p → ⊥) where
       passes_by : (g : Pair) → Has (edges region) g → goes_through g p ≡ false
       passes_by g m = false_from_ne_true _ (λ h. no (λ n.
           let q = edge_borders region is.apart is.once (λ p. is_in fill_rule contours p) Clear is.around g m p some h lines lines_ordered clear_off (not kind) n in
@@ -375,25 +375,25 @@ module _ (fill_rule : FillRule) (subject clip first second : List (List Point)) 
             }))
       ]
 
-    point_of_meet : (kind other : Bool) → PartsMeet fill_rule fill_rule subject clip (part_of kind) (part_of other) → HasPoint fill_rule fill_rule subject clip kind other
+    point_of_meet : (kind other : Bool) → PartsMeet subject_rule clip_rule subject clip (part_of kind) (part_of other) → HasPoint subject_rule clip_rule subject clip kind other
     point_of_meet kind other m =
-        let no = at_open subject kind m.point m.at_subject in
-        let none = at_open clip other m.point m.at_clip in
-        let k = (kind_box subject of_subject rs far_subject kind m.point m.some no).0 in
-        let l = (kind_box clip of_clip rc far_clip other m.point m.some none).0 in
+        let no = at_open subject_rule subject kind m.point m.at_subject in
+        let none = at_open clip_rule clip other m.point m.at_clip in
+        let k = (kind_box subject_rule subject of_subject rs far_subject kind m.point m.some no).0 in
+        let l = (kind_box clip_rule clip of_clip rc far_clip other m.point m.some none).0 in
         let c = clear_near lines lines_ordered m.point m.some (k + l) in
         record {
           point = c.0;
           some = c.1;
           off_edges = clear_off c.0 c.2;
-          of_subject = kind_near subject of_subject rs far_subject kind m.point m.some no c.0 c.1 (clear_off c.0 c.2) (close_weaker k (k + l) m.point c.0 (part_left k l) c.3);
-          of_clip = kind_near clip of_clip rc far_clip other m.point m.some none c.0 c.1 (clear_off c.0 c.2) (close_weaker l (k + l) m.point c.0 (part_right k l) c.3);
+          of_subject = kind_near subject_rule subject of_subject rs far_subject kind m.point m.some no c.0 c.1 (clear_off c.0 c.2) (close_weaker k (k + l) m.point c.0 (part_left k l) c.3);
+          of_clip = kind_near clip_rule clip of_clip rc far_clip other m.point m.some none c.0 c.1 (clear_off c.0 c.2) (close_weaker l (k + l) m.point c.0 (part_right k l) c.3);
         }
 
     open_entry : (rule : OverlayRule) (region : List (List Point)) (kind other : Bool) → holds rule false false ≡ false → IsTrue (holds rule kind other) → ((v w : Bool) → IsTrue (holds rule v w) → (v ≡ kind) × (w ≡ other)) → IsRegionBy first second segments rule region
-        → PartsMeet fill_rule fill_rule subject clip (part_of kind) (part_of other) ↔ (region ≡ [] → ⊥)
+        → PartsMeet subject_rule clip_rule subject clip (part_of kind) (part_of other) ↔ (region ≡ [] → ⊥)
     open_entry rule region kind other outside here only is =
-        let decide = exact_boundaries_decide rule fill_rule fill_rule subject clip first second region outside a b is.overlay in (
+        let decide = exact_boundaries_decide rule subject_rule clip_rule subject clip first second region outside a b is.overlay in (
           λ m none.
               let p = point_of_meet kind other m in
               decide.0 none (record {
@@ -414,61 +414,61 @@ module _ (fill_rule : FillRule) (subject clip first second : List (List Point)) 
       common_from : (e : Pair) × Has (edges r) e × Has (edges s) e → HaveCommonEdge r s
       common_from (e, m, k) = (e, Contains-from_Has (edges r) e m, Contains-from_Has (edges s) e k)
 
-      border_of_subject : Tells (λ v w. holds rule v w) (λ v w. holds other v w) wanted → PartsMeet fill_rule fill_rule subject clip border (part_of wanted) ↔ HaveCommonEdge r s
+      border_of_subject : Tells (λ v w. holds rule v w) (λ v w. holds other v w) wanted → PartsMeet subject_rule clip_rule subject clip border (part_of wanted) ↔ HaveCommonEdge r s
       border_of_subject tells = (
-        λ m. common_from (common_edge fill_rule fill_rule subject clip lines lines_ordered Clear clear_off far_subject far_clip (λ v w. holds rule v w) (λ v w. holds other v w) wanted tells r s of_clip
+        λ m. common_from (common_edge subject_rule clip_rule subject clip lines lines_ordered Clear clear_off far_subject far_clip (λ v w. holds rule v w) (λ v w. holds other v w) wanted tells r s of_clip
             (region_of rule r outside ir.overlay) (region_of other s further is.overlay) rc (edges_apart segments planar rule other r s ir is) (edges_apart segments planar rule Clip r of_clip ir oc)
-            m.point m.some m.at_subject (at_open clip wanted m.point m.at_clip)),
+            m.point m.some m.at_subject (at_open clip_rule clip wanted m.point m.at_clip)),
         λ c. record {
           point = middle c.0;
           some = omega arith;
-          at_subject = edge_on fill_rule fill_rule subject clip lines lines_ordered Clear clear_off far_subject far_clip (λ v w. holds rule v w) (λ v w. holds other v w) wanted tells r s of_clip
+          at_subject = edge_on subject_rule clip_rule subject clip lines lines_ordered Clear clear_off far_subject far_clip (λ v w. holds rule v w) (λ v w. holds other v w) wanted tells r s of_clip
               (region_of rule r outside ir.overlay) (region_of other s further is.overlay) rc (edges_apart segments planar rule other r s ir is) (edges_apart segments planar rule Clip r of_clip ir oc)
               c.0 (Has-from_Contains (edges r) c.0 c.1) (Has-from_Contains (edges s) c.0 c.2);
-          at_clip = open_at clip wanted (middle c.0) (edge_not fill_rule fill_rule subject clip lines lines_ordered Clear clear_off far_subject far_clip (λ v w. holds rule v w) (λ v w. holds other v w) wanted tells r s of_clip
+          at_clip = open_at clip_rule clip wanted (middle c.0) (edge_not subject_rule clip_rule subject clip lines lines_ordered Clear clear_off far_subject far_clip (λ v w. holds rule v w) (λ v w. holds other v w) wanted tells r s of_clip
               (region_of rule r outside ir.overlay) (region_of other s further is.overlay) rc (edges_apart segments planar rule other r s ir is) (edges_apart segments planar rule Clip r of_clip ir oc)
               c.0 (Has-from_Contains (edges r) c.0 c.1) (Has-from_Contains (edges s) c.0 c.2));
         },
       )
 
-      border_of_clip : Tells (λ v w. holds rule w v) (λ v w. holds other w v) wanted → PartsMeet fill_rule fill_rule subject clip (part_of wanted) border ↔ HaveCommonEdge r s
+      border_of_clip : Tells (λ v w. holds rule w v) (λ v w. holds other w v) wanted → PartsMeet subject_rule clip_rule subject clip (part_of wanted) border ↔ HaveCommonEdge r s
       border_of_clip tells = (
-        λ m. common_from (common_edge fill_rule fill_rule clip subject lines lines_ordered Clear clear_off far_clip far_subject (λ v w. holds rule w v) (λ v w. holds other w v) wanted tells r s of_subject
+        λ m. common_from (common_edge clip_rule subject_rule clip subject lines lines_ordered Clear clear_off far_clip far_subject (λ v w. holds rule w v) (λ v w. holds other w v) wanted tells r s of_subject
             (region_of rule r outside ir.overlay) (region_of other s further is.overlay) rs (edges_apart segments planar rule other r s ir is) (edges_apart segments planar rule Subject r of_subject ir os)
-            m.point m.some m.at_clip (at_open subject wanted m.point m.at_subject)),
+            m.point m.some m.at_clip (at_open subject_rule subject wanted m.point m.at_subject)),
         λ c. record {
           point = middle c.0;
           some = omega arith;
-          at_clip = edge_on fill_rule fill_rule clip subject lines lines_ordered Clear clear_off far_clip far_subject (λ v w. holds rule w v) (λ v w. holds other w v) wanted tells r s of_subject
+          at_clip = edge_on clip_rule subject_rule clip subject lines lines_ordered Clear clear_off far_clip far_subject (λ v w. holds rule w v) (λ v w. holds other w v) wanted tells r s of_subject
               (region_of rule r outside ir.overlay) (region_of other s further is.overlay) rs (edges_apart segments planar rule other r s ir is) (edges_apart segments planar rule Subject r of_subject ir os)
               c.0 (Has-from_Contains (edges r) c.0 c.1) (Has-from_Contains (edges s) c.0 c.2);
-          at_subject = open_at subject wanted (middle c.0) (edge_not fill_rule fill_rule clip subject lines lines_ordered Clear clear_off far_clip far_subject (λ v w. holds rule w v) (λ v w. holds other w v) wanted tells r s of_subject
+          at_subject = open_at subject_rule subject wanted (middle c.0) (edge_not clip_rule subject_rule clip subject lines lines_ordered Clear clear_off far_clip far_subject (λ v w. holds rule w v) (λ v w. holds other w v) wanted tells r s of_subject
               (region_of rule r outside ir.overlay) (region_of other s further is.overlay) rs (edges_apart segments planar rule other r s ir is) (edges_apart segments planar rule Subject r of_subject ir os)
               c.0 (Has-from_Contains (edges r) c.0 c.1) (Has-from_Contains (edges s) c.0 c.2));
         },
       )
 
 pub matrix_by_regions : MatrixByRegions
-matrix_by_regions fill_rule subject clip first second both either subject_alone clip_alone of_subject of_clip a b are =
+matrix_by_regions subject_rule clip_rule subject clip first second both either subject_alone clip_alone of_subject of_clip a b are =
     let s = are.segments in
     let p = are.planar in
     let os = are.by_subject in
     let oc = are.by_clip in
     let wide = widest (edges subject ++ edges clip) in (
-      open_entry fill_rule subject clip first second a b s p of_subject of_clip os oc Intersect both true true refl refl (λ v w h. and_parts v w h) are.by_both,
-      border_of_clip fill_rule subject clip first second a b s p of_subject of_clip os oc both subject_alone Intersect Difference are.by_both are.by_subject_alone refl refl true
+      open_entry subject_rule clip_rule subject clip first second a b s p of_subject of_clip os oc Intersect both true true refl refl (λ v w h. and_parts v w h) are.by_both,
+      border_of_clip subject_rule clip_rule subject clip first second a b s p of_subject of_clip os oc both subject_alone Intersect Difference are.by_both are.by_subject_alone refl refl true
           (tells_same (λ v w. v && w) (λ v w. w && not v) (λ v w. w && v) (λ v w. w && not v) true and_turned (λ v w. refl) inside_of_boundary),
-      open_entry fill_rule subject clip first second a b s p of_subject of_clip os oc Difference subject_alone true false refl refl only_left are.by_subject_alone,
-      border_of_subject fill_rule subject clip first second a b s p of_subject of_clip os oc both clip_alone Intersect InverseDifference are.by_both are.by_clip_alone refl refl true inside_of_boundary,
-      (borders_meet fill_rule subject clip first second a b s p of_subject of_clip os oc, borders_there fill_rule subject clip first second a b s p of_subject of_clip os oc),
-      border_of_subject fill_rule subject clip first second a b s p of_subject of_clip os oc either subject_alone Union Difference are.by_either are.by_subject_alone refl refl false outside_of_boundary,
-      open_entry fill_rule subject clip first second a b s p of_subject of_clip os oc InverseDifference clip_alone false true refl refl only_right are.by_clip_alone,
-      border_of_clip fill_rule subject clip first second a b s p of_subject of_clip os oc either clip_alone Union InverseDifference are.by_either are.by_clip_alone refl refl false
+      open_entry subject_rule clip_rule subject clip first second a b s p of_subject of_clip os oc Difference subject_alone true false refl refl only_left are.by_subject_alone,
+      border_of_subject subject_rule clip_rule subject clip first second a b s p of_subject of_clip os oc both clip_alone Intersect InverseDifference are.by_both are.by_clip_alone refl refl true inside_of_boundary,
+      (borders_meet subject_rule clip_rule subject clip first second a b s p of_subject of_clip os oc, borders_there subject_rule clip_rule subject clip first second a b s p of_subject of_clip os oc),
+      border_of_subject subject_rule clip_rule subject clip first second a b s p of_subject of_clip os oc either subject_alone Union Difference are.by_either are.by_subject_alone refl refl false outside_of_boundary,
+      open_entry subject_rule clip_rule subject clip first second a b s p of_subject of_clip os oc InverseDifference clip_alone false true refl refl only_right are.by_clip_alone,
+      border_of_clip subject_rule clip_rule subject clip first second a b s p of_subject of_clip os oc either clip_alone Union InverseDifference are.by_either are.by_clip_alone refl refl false
           (tells_same (λ v w. v || w) (λ v w. v && not w) (λ v w. w || v) (λ v w. v && not w) false or_turned (λ v w. refl) outside_of_boundary),
       record {
         point = leftmost wide.0;
         some = left_some wide.0;
-        at_subject = outside_left fill_rule subject wide.0 (λ g m. wide.1 g (Has-append_left (edges subject) (edges clip) g m));
-        at_clip = outside_left fill_rule clip wide.0 (λ g m. wide.1 g (Has-append_right (edges subject) (edges clip) g m));
+        at_subject = outside_left subject_rule subject wide.0 (λ g m. wide.1 g (Has-append_left (edges subject) (edges clip) g m));
+        at_clip = outside_left clip_rule clip wide.0 (λ g m. wide.1 g (Has-append_right (edges subject) (edges clip) g m));
       },
     )
