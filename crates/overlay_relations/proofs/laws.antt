@@ -18,5 +18,7 @@ pub mod Matrices
 pub mod CrossingParts
 pub mod ContactOutcomes
 pub mod PointLists
+pub mod EdgeLists
+pub mod MatrixOutcomes
 pub mod Outcomes
 pub mod Refusals

@@ -11,7 +11,9 @@ use Rattle.overlay_contours.specs.Beyond.{IsOverlayBeyond}
 use Rattle.overlay_contours.specs.Contours.{edges}
 use Rattle.overlay_relations.specs.Boundaries.{has_inexact_crossing, IsBoundaryOf}
 use Rattle.overlay_relations.specs.ContactLaws.{HaveCommonPoint}
-use Rattle.overlay_relations.specs.Matrix.{Part, interior, border, exterior, PartsMeet}
+use Rattle.overlay_relations.specs.Matrix.{PartsMeet}
+use Rattle.overlay_relations.specs.declared.matrix.Part.{Part}
+use Rattle.overlay_relations.specs.declared.matrix.Part.TheVariants.{Interior, Boundary, Exterior}
 
 -- Some edge is an edge of both lists of contours.
 abbrev pub HaveCommonEdge : List (List Point) → List (List Point) → Type 0
@@ -40,15 +42,15 @@ MatrixByRegions =
     (subject_rule clip_rule : FillRule) (subject clip first second both either subject_alone clip_alone of_subject of_clip : List (List Point)) →
     IsBoundaryOf subject_rule subject first → IsBoundaryOf clip_rule clip second →
     AreRegions first second both either subject_alone clip_alone of_subject of_clip →
-    (PartsMeet subject_rule clip_rule subject clip interior interior ↔ (both ≡ [] → ⊥))
-    × (PartsMeet subject_rule clip_rule subject clip interior border ↔ HaveCommonEdge both subject_alone)
-    × (PartsMeet subject_rule clip_rule subject clip interior exterior ↔ (subject_alone ≡ [] → ⊥))
-    × (PartsMeet subject_rule clip_rule subject clip border interior ↔ HaveCommonEdge both clip_alone)
-    × (PartsMeet subject_rule clip_rule subject clip border border ↔ HaveCommonPoint of_subject of_clip)
-    × (PartsMeet subject_rule clip_rule subject clip border exterior ↔ HaveCommonEdge either subject_alone)
-    × (PartsMeet subject_rule clip_rule subject clip exterior interior ↔ (clip_alone ≡ [] → ⊥))
-    × (PartsMeet subject_rule clip_rule subject clip exterior border ↔ HaveCommonEdge either clip_alone)
-    × PartsMeet subject_rule clip_rule subject clip exterior exterior
+    (PartsMeet subject_rule clip_rule subject clip Interior Interior ↔ (both ≡ [] → ⊥))
+    × (PartsMeet subject_rule clip_rule subject clip Interior Boundary ↔ HaveCommonEdge both subject_alone)
+    × (PartsMeet subject_rule clip_rule subject clip Interior Exterior ↔ (subject_alone ≡ [] → ⊥))
+    × (PartsMeet subject_rule clip_rule subject clip Boundary Interior ↔ HaveCommonEdge both clip_alone)
+    × (PartsMeet subject_rule clip_rule subject clip Boundary Boundary ↔ HaveCommonPoint of_subject of_clip)
+    × (PartsMeet subject_rule clip_rule subject clip Boundary Exterior ↔ HaveCommonEdge either subject_alone)
+    × (PartsMeet subject_rule clip_rule subject clip Exterior Interior ↔ (clip_alone ≡ [] → ⊥))
+    × (PartsMeet subject_rule clip_rule subject clip Exterior Boundary ↔ HaveCommonEdge either clip_alone)
+    × PartsMeet subject_rule clip_rule subject clip Exterior Exterior
 
 -- Where the boundaries cross at a point that is not whole, each part of the one shape meets each part of the other.
 abbrev pub CrossingBoundariesMeetAll : Type 0

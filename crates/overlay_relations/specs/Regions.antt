@@ -5,7 +5,9 @@ use Rattle.overlay_base.specs.declared.overlay_core.fill_rule.FillRule.{FillRule
 use Rattle.overlay_contours.specs.ContoursOf.{contours_of}
 use Rattle.overlay_relations.specs.Boundaries.{IsBoundaryOf}
 use Rattle.overlay_relations.specs.Contacts.{AreDisjoint, Touch}
+use Rattle.overlay_relations.specs.Matrix.{IsMatrix}
 use Rattle.overlay_relations.specs.Relations.{InteriorsMeet, Covers, IsWithin, AreSameRegion}
+use Rattle.overlay_relations.specs.declared.matrix.Relation.{Relation as Entries}
 use Rattle.overlay_relations.specs.declared.region.Region.{Region}
 
 -- the boundary that a region keeps
@@ -45,3 +47,9 @@ DecidesTouching first second found = Decides Touch first second found
 
 abbrev pub DecidesDisjointness : {I : Type 0} {w : _} {o : _} {e : _} {p : _} → Region I w o e p → Region I w o e p → Bool → Type 0
 DecidesDisjointness first second found = Decides AreDisjoint first second found
+
+-- The entries are those of any two shapes that have these regions.
+abbrev pub DecidesMatrix : {I : Type 0} {w : _} {o : _} {e : _} {p : _} → Region I w o e p → Region I w o e p → Entries → Type 0
+DecidesMatrix first second entries =
+    (subject_rule clip_rule : FillRule) (subject clip : List (List Point)) → IsRegionOf subject_rule subject first → IsRegionOf clip_rule clip second →
+    IsMatrix subject_rule clip_rule subject clip entries

@@ -167,7 +167,7 @@ fn arranged_contact<I: OverlayInt>(
 }
 
 /// Whether some point is a point of contours of both lists.
-fn have_common_point<I: OverlayInt>(
+pub(crate) fn have_common_point<I: OverlayInt>(
     alloc: Global,
     first: &[IntContour<I>],
     second: &[IntContour<I>],

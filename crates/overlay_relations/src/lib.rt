@@ -3,5 +3,6 @@
 
 pub mod contacts;
 pub mod fault;
+pub mod matrix;
 pub mod predicates;
 pub mod region;

@@ -8,6 +8,7 @@ ghost use Rattle.overlay_relations.specs.Refusals.{IsOverlayRefusal, IsRegionRef
 
 use crate::contacts::{boundary_contact, is_apart, is_touching};
 use crate::fault::RelationFault;
+use crate::matrix::{Relation, boundary_relation};
 use crate::predicates::{exact_boundary, holds_between, test_range};
 use overlay_base::overlay_core::fill_rule::FillRule;
 use overlay_base::overlay_core::overlay_rule::OverlayRule;
@@ -28,7 +29,7 @@ pub struct Region<I: OverlayInt> {
 }
 
 impl<I: OverlayInt> Region<I> {
-    ghost use Rattle.overlay_relations.specs.Regions.{boundary_of, IsRegionOf, DecidesMeeting, DecidesCovering, DecidesLyingWithin, DecidesSameness, DecidesTouching, DecidesDisjointness};
+    ghost use Rattle.overlay_relations.specs.Regions.{boundary_of, IsRegionOf, DecidesMeeting, DecidesCovering, DecidesLyingWithin, DecidesSameness, DecidesTouching, DecidesDisjointness, DecidesMatrix};
 
     /// The region of contours under a fill rule. Two regions that are compared may have two fill rules.
     ///
@@ -139,5 +140,14 @@ impl<I: OverlayInt> Region<I> {
     {
         let contact = boundary_contact(self.alloc, &self.boundary, &other.boundary, solver)?;
         Ok(is_apart(contact))
+    }
+
+    /// Which parts of the regions meet, as the function `relate` returns it. Errors are those of `interiors_meet`.
+    pub fn relate(&self, other: &Region<I>, solver: &Solver) -> Result<Relation, ContourFault>
+        ensures matrix { IfOk result (DecidesMatrix self.now other.now) }
+        ensures refused { IfErr result (IsOverlayRefusal (boundary_of self.now) (boundary_of other.now)) }
+    {
+        let relation = boundary_relation(self.alloc, &self.boundary, &other.boundary, solver)?;
+        Ok(relation)
     }
 }

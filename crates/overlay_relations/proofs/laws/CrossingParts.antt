@@ -31,7 +31,9 @@ use Rattle.overlay_contours.specs.Contours.{edges, winding_number}
 use Rattle.overlay_contours.specs.ContourSegments.{contour_segments, overlay_segments}
 use Rattle.overlay_relations.specs.Boundaries.{has_inexact_crossing, IsBoundaryOf}
 use Rattle.overlay_relations.specs.Contacts.{IsCloser, Borders, IsOnBoundary}
-use Rattle.overlay_relations.specs.Matrix.{Part, interior, border, exterior, IsAt, PartsMeet}
+use Rattle.overlay_relations.specs.Matrix.{IsAt, PartsMeet}
+use Rattle.overlay_relations.specs.declared.matrix.Part.{Part}
+use Rattle.overlay_relations.specs.declared.matrix.Part.TheVariants.{Interior, Boundary, Exterior}
 use Rattle.overlay_relations.specs.MatrixLaws.{CrossingBoundariesMeetAll}
 use Rattle.overlay_relations.specs.Relations.{is_in}
 use Rattle.overlay_relations.proofs.laws.InsidePlaces.{enlarged, tops, IsInside, inside_both, off_others}
@@ -320,13 +322,13 @@ module _ (subject_rule clip_rule : FillRule) (subject clip first second : List (
     both_open : (kind other : Bool) → PartsMeet subject_rule clip_rule subject clip (part_of subject_rule clip_rule subject clip first second a b kind) (part_of subject_rule clip_rule subject clip first second a b other)
     both_open kind other = meet_of_point subject_rule clip_rule subject clip first second a b kind other (crossing_boundaries_meet subject_rule clip_rule subject clip first second a b h kind other)
 
-    border_open : (wanted : Bool) → PartsMeet subject_rule clip_rule subject clip border (part_of subject_rule clip_rule subject clip first second a b wanted)
+    border_open : (wanted : Bool) → PartsMeet subject_rule clip_rule subject clip Boundary (part_of subject_rule clip_rule subject clip first second a b wanted)
     border_open wanted =
         let c = crossing_edges h in
         let p = border_with subject_rule clip_rule subject clip first second of_first (far_subject subject_rule clip_rule subject clip first second a b) of_second c.s c.t c.of_s c.of_t c.cross wanted in
         record { point = p.0; some = p.1; at_subject = p.2; at_clip = p.3 }
 
-    open_border : (wanted : Bool) → PartsMeet subject_rule clip_rule subject clip (part_of subject_rule clip_rule subject clip first second a b wanted) border
+    open_border : (wanted : Bool) → PartsMeet subject_rule clip_rule subject clip (part_of subject_rule clip_rule subject clip first second a b wanted) Boundary
     open_border wanted =
         let c = crossing_edges h in
         let p = border_with clip_rule subject_rule clip subject second first of_second (far_clip subject_rule clip_rule subject clip first second a b) of_first c.t c.s c.of_t c.of_s (sym (do_cross_back c.s c.t) ∙ c.cross) wanted in
@@ -335,7 +337,7 @@ module _ (subject_rule clip_rule : FillRule) (subject clip first second : List (
     on_pair : (s : Pair) (x : RationalPoint) → 0 < x.bottom → Before s.a s.b → IsInside s x → goes_through s x ≡ true
     on_pair s x some o i = through_from_order s x some o i.on_line (UpTo-Before _ _ i.after_a) (UpTo-Before _ _ i.before_b)
 
-    both_borders : PartsMeet subject_rule clip_rule subject clip border border
+    both_borders : PartsMeet subject_rule clip_rule subject clip Boundary Boundary
     both_borders =
         let c = crossing_edges h in
         let os = edges_ordered first c.s c.of_s in
@@ -349,15 +351,15 @@ module _ (subject_rule clip_rule : FillRule) (subject clip first second : List (
         }
 
     all_parts : (of_subject of_clip : Part) → PartsMeet subject_rule clip_rule subject clip of_subject of_clip
-    all_parts interior interior = both_open true true
-    all_parts interior border = open_border true
-    all_parts interior exterior = both_open true false
-    all_parts border interior = border_open true
-    all_parts border border = both_borders
-    all_parts border exterior = border_open false
-    all_parts exterior interior = both_open false true
-    all_parts exterior border = open_border false
-    all_parts exterior exterior = both_open false false
+    all_parts Interior Interior = both_open true true
+    all_parts Interior Boundary = open_border true
+    all_parts Interior Exterior = both_open true false
+    all_parts Boundary Interior = border_open true
+    all_parts Boundary Boundary = both_borders
+    all_parts Boundary Exterior = border_open false
+    all_parts Exterior Interior = both_open false true
+    all_parts Exterior Boundary = open_border false
+    all_parts Exterior Exterior = both_open false false
 
 pub crossing_boundaries_meet_all : CrossingBoundariesMeetAll
 crossing_boundaries_meet_all subject_rule clip_rule subject clip first second a b h = all_parts subject_rule clip_rule subject clip first second a b h

@@ -33,7 +33,9 @@ use Rattle.overlay_contours.specs.Polygons.{IsBeyond}
 use Rattle.overlay_relations.specs.Boundaries.{IsBoundaryOf}
 use Rattle.overlay_relations.specs.Contacts.{IsCloser, Borders, IsOnBoundary}
 use Rattle.overlay_relations.specs.ContactLaws.{HaveCommonPoint}
-use Rattle.overlay_relations.specs.Matrix.{Part, interior, border, exterior, IsAt, PartsMeet}
+use Rattle.overlay_relations.specs.Matrix.{IsAt, PartsMeet}
+use Rattle.overlay_relations.specs.declared.matrix.Part.{Part}
+use Rattle.overlay_relations.specs.declared.matrix.Part.TheVariants.{Interior, Boundary, Exterior}
 use Rattle.overlay_relations.specs.MatrixLaws.{HaveCommonEdge, IsRegionBy, MatrixByRegions}
 use Rattle.overlay_relations.specs.Relations.{is_in, HasPoint}
 use Rattle.overlay_relations.proofs.laws.NearPlaces.{above_abs}
@@ -277,8 +279,8 @@ module _ (subject_rule clip_rule : FillRule) (subject clip first second : List (
   -- ---- two open parts
 
   abbrev pub part_of : Bool → Part
-  part_of true = interior
-  part_of false = exterior
+  part_of true = Interior
+  part_of false = Exterior
 
   pub open_at : (fill_rule : FillRule) (contours : List (List Point)) (kind : Bool) (p : RationalPoint) → (Borders fill_rule contours (not kind) p → ⊥) → IsAt fill_rule contours (part_of kind) p
   open_at fill_rule contours true p h = h
@@ -323,7 +325,7 @@ module _ (subject_rule clip_rule : FillRule) (subject clip first second : List (
           ∙ d.here) refl)
     ]
 
-    borders_meet : PartsMeet subject_rule clip_rule subject clip border border → HaveCommonPoint of_subject of_clip
+    borders_meet : PartsMeet subject_rule clip_rule subject clip Boundary Boundary → HaveCommonPoint of_subject of_clip
     borders_meet p =
         let g = on_edge subject_rule subject of_subject rs p.point p.some p.at_subject in
         let h = on_edge clip_rule clip of_clip rc p.point p.some p.at_clip in
@@ -336,7 +338,7 @@ module _ (subject_rule clip_rule : FillRule) (subject clip first second : List (
         let q = edge_borders region is.apart is.once (λ p. is_in fill_rule contours p) Clear is.around g m (whole_point v) (omega arith) on lines lines_ordered clear_off inside n in
         record { point = q.0; some = q.1; closer = q.3; off_edges = far_alone q.0 contours (far q.0 (clear_off q.0 q.2)); here = q.4 }
 
-    borders_there : HaveCommonPoint of_subject of_clip → PartsMeet subject_rule clip_rule subject clip border border
+    borders_there : HaveCommonPoint of_subject of_clip → PartsMeet subject_rule clip_rule subject clip Boundary Boundary
     borders_there (v, m, k) =
         let g = point_is_end of_subject os.overlay.bound.proper v (Has-from_Contains (all_points of_subject) v m) in
         let h = point_is_end of_clip oc.overlay.bound.proper v (Has-from_Contains (all_points of_clip) v k) in
@@ -414,7 +416,7 @@ module _ (subject_rule clip_rule : FillRule) (subject clip first second : List (
       common_from : (e : Pair) × Has (edges r) e × Has (edges s) e → HaveCommonEdge r s
       common_from (e, m, k) = (e, Contains-from_Has (edges r) e m, Contains-from_Has (edges s) e k)
 
-      border_of_subject : Tells (λ v w. holds rule v w) (λ v w. holds other v w) wanted → PartsMeet subject_rule clip_rule subject clip border (part_of wanted) ↔ HaveCommonEdge r s
+      border_of_subject : Tells (λ v w. holds rule v w) (λ v w. holds other v w) wanted → PartsMeet subject_rule clip_rule subject clip Boundary (part_of wanted) ↔ HaveCommonEdge r s
       border_of_subject tells = (
         λ m. common_from (common_edge subject_rule clip_rule subject clip lines lines_ordered Clear clear_off far_subject far_clip (λ v w. holds rule v w) (λ v w. holds other v w) wanted tells r s of_clip
             (region_of rule r outside ir.overlay) (region_of other s further is.overlay) rc (edges_apart segments planar rule other r s ir is) (edges_apart segments planar rule Clip r of_clip ir oc)
@@ -431,7 +433,7 @@ module _ (subject_rule clip_rule : FillRule) (subject clip first second : List (
         },
       )
 
-      border_of_clip : Tells (λ v w. holds rule w v) (λ v w. holds other w v) wanted → PartsMeet subject_rule clip_rule subject clip (part_of wanted) border ↔ HaveCommonEdge r s
+      border_of_clip : Tells (λ v w. holds rule w v) (λ v w. holds other w v) wanted → PartsMeet subject_rule clip_rule subject clip (part_of wanted) Boundary ↔ HaveCommonEdge r s
       border_of_clip tells = (
         λ m. common_from (common_edge clip_rule subject_rule clip subject lines lines_ordered Clear clear_off far_clip far_subject (λ v w. holds rule w v) (λ v w. holds other w v) wanted tells r s of_subject
             (region_of rule r outside ir.overlay) (region_of other s further is.overlay) rs (edges_apart segments planar rule other r s ir is) (edges_apart segments planar rule Subject r of_subject ir os)
