@@ -326,6 +326,23 @@ fadrinzo_status fadrinzo_relation(fadrinzo *overlay, int relation, int fill_rule
     return (fadrinzo_status)status;
 }
 
+fadrinzo_status fadrinzo_relate(fadrinzo *overlay, int fill_rule, char letters[10])
+{
+    if (!overlay || !letters || !is_fill_rule(fill_rule))
+        return FADRINZO_BAD_ARGUMENT;
+    fadrinzo_settings settings = settings_for(fill_rule);
+    fadrinzo_matrix m = {0};
+    uint8_t status = overlay_c_relate(&overlay->handle, &settings, &m);
+    if (status != FADRINZO_OK)
+        return (fadrinzo_status)status;
+    const bool entries[9] = {m.interior_interior, m.interior_boundary, m.interior_exterior, m.boundary_interior, m.boundary_boundary,
+                             m.boundary_exterior, m.exterior_interior, m.exterior_boundary, m.exterior_exterior};
+    for (size_t i = 0; i < 9; i++)
+        letters[i] = entries[i] ? 'T' : 'F';
+    letters[9] = 0;
+    return FADRINZO_OK;
+}
+
 fadrinzo_result fadrinzo_get(const fadrinzo *overlay)
 {
     return overlay ? overlay->result : (fadrinzo_result){0};

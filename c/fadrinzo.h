@@ -82,7 +82,7 @@ typedef struct fadrinzo fadrinzo;
 /* The result of the last overlay: points as x, y, x, y, .., contour after contour, and contours shape after shape. Contour i has the
    points from contour_starts[i] to before contour_starts[i + 1], and shape i the contours from shape_starts[i] to before
    shape_starts[i + 1], its outer boundary first. There are no shapes after fadrinzo_overlay. All is valid until the next call
-   on the overlay but fadrinzo_locate and fadrinzo_relation. */
+   on the overlay but fadrinzo_locate, fadrinzo_relation and fadrinzo_relate. */
 typedef struct {
     const int32_t *xy;
     const size_t *contour_starts;
@@ -153,6 +153,11 @@ fadrinzo_location fadrinzo_locate(fadrinzo *overlay, int shape, int fill_rule, i
    valid polygons never do, and FADRINZO_CLIP_NOT_EXACT if two edges of the clip do. The overlay of such a shape by FADRINZO_RULE_SUBJECT has
    no such crossing, and is the same region but for rounding. */
 fadrinzo_status fadrinzo_relation(fadrinzo *overlay, int relation, int fill_rule, int *holds);
+
+/* Which parts of the subject meet which parts of the clip that were added, exactly: the interior, the boundary and the exterior of each. After
+   FADRINZO_OK letters has nine letters, row by row for the parts of the subject, and a last 0: T if some point is in both parts, and F
+   if none is. Else it is unchanged. Other statuses are those of fadrinzo_relation. */
+fadrinzo_status fadrinzo_relate(fadrinzo *overlay, int fill_rule, char letters[10]);
 
 /* The result of the last overlay. Nothing after one that failed, for whatever reason: a wrong argument, a refused growth, a count. A call that
    makes no overlay leaves it, but for fadrinzo_clear. */

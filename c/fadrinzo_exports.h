@@ -141,6 +141,28 @@ typedef struct {
     void *at;
 } fadrinzo_handle;
 
+/* Which parts of the subject meet which parts of the clip. */
+typedef struct {
+    /* Whether some point is inside the subject and inside the clip. */
+    bool interior_interior;
+    /* Whether some point is inside the subject and on the boundary of the clip. */
+    bool interior_boundary;
+    /* Whether some point is inside the subject and outside the clip. */
+    bool interior_exterior;
+    /* Whether some point is on the boundary of the subject and inside the clip. */
+    bool boundary_interior;
+    /* Whether some point is on the boundary of the subject and on the boundary of the clip. */
+    bool boundary_boundary;
+    /* Whether some point is on the boundary of the subject and outside the clip. */
+    bool boundary_exterior;
+    /* Whether some point is outside the subject and inside the clip. */
+    bool exterior_interior;
+    /* Whether some point is outside the subject and on the boundary of the clip. */
+    bool exterior_boundary;
+    /* Whether some point is outside the subject and outside the clip. */
+    bool exterior_exterior;
+} fadrinzo_matrix;
+
 /* Makes an engine, in an empty handle. Returns whether there was memory. */
 bool overlay_c_new(fadrinzo_handle *handle, uint32_t snap_limit);
 
@@ -227,6 +249,12 @@ uint8_t overlay_c_locate(fadrinzo_handle *handle, const fadrinzo_point *point, u
    coordinates, and 7 where two edges of the clip do, and none of the subject. After any other code than 0 holds is
    unchanged. */
 uint8_t overlay_c_relation(fadrinzo_handle *handle, const fadrinzo_settings *settings, uint8_t code, bool *holds);
+
+/* Which parts of the subject meet which parts of the clip that were added, exactly: the inside, the boundary and
+   the outside of each. A point is on the boundary of a shape if there are points inside and outside of it, however
+   near to it. Of the settings it takes the strategy and the fill rule. Returns as overlay_c_relation does; after
+   any other code than 0 matrix is unchanged. */
+uint8_t overlay_c_relate(fadrinzo_handle *handle, const fadrinzo_settings *settings, fadrinzo_matrix *matrix);
 
 /* What the last overlay of contours, in shapes or not, reports of its run: how many passes it made, and how far
    these moved edges. What such an overlay leaves holds at every place that is farther than this from the edges of

@@ -387,6 +387,30 @@ static int relation_of_given(int relation, int fill_rule)
     }
 }
 
+/* The part of a shape of such contours in which a point at halves of a unit lies, by the unit squares around it: 0 for its interior, 1 for its
+   boundary, 2 for its exterior. */
+static int part_at(int shape, int fill_rule, int x, int y)
+{
+    int in = 0, out = 0;
+    for (int of_x = (x + 1) / 2 - 1; of_x <= x / 2; of_x++)
+        for (int of_y = (y + 1) / 2 - 1; of_y <= y / 2; of_y++)
+            if (is_inside(fill_rule, winding_of_given(shape, of_x, of_y)))
+                in = 1;
+            else
+                out = 1;
+    return in && out ? 1 : in ? 0 : 2;
+}
+
+static void check_matrix(fadrinzo *overlay, int fill_rule)
+{
+    char wanted[10] = "FFFFFFFFF", found[10] = "";
+    for (int x = 0; x <= 2 * SPAN; x++)
+        for (int y = 0; y <= 2 * SPAN; y++)
+            wanted[3 * part_at(FADRINZO_SUBJECT, fill_rule, x, y) + part_at(FADRINZO_CLIP, fill_rule, x, y)] = 'T';
+    CHECK(fadrinzo_relate(overlay, fill_rule, found) == FADRINZO_OK, "fill %d", fill_rule);
+    CHECK(!strcmp(found, wanted), "fill %d: %s, not %s", fill_rule, found, wanted);
+}
+
 /* All relations of each choice of the nested squares. */
 static void check_relations(void)
 {
@@ -401,12 +425,14 @@ static void check_relations(void)
         fadrinzo *overlay = fadrinzo_new();
         CHECK(overlay, "memory");
         add_all(overlay, some, count);
-        for (int fill_rule = 0; fill_rule < FILLS; fill_rule++)
+        for (int fill_rule = 0; fill_rule < FILLS; fill_rule++) {
+            check_matrix(overlay, fill_rule);
             for (int relation = 0; relation < RELATIONS; relation++) {
                 int found = -1, wanted = relation_of_given(relation, fill_rule);
                 CHECK(fadrinzo_relation(overlay, relation, fill_rule, &found) == FADRINZO_OK, "relation %d", relation);
                 CHECK(found == wanted, "squares %x, relation %d, fill %d", chosen, relation, fill_rule);
             }
+        }
         fadrinzo_free(overlay);
     }
 }
@@ -427,6 +453,8 @@ static void check_not_exact(void)
                 CHECK((int)fadrinzo_relation(overlay, relation, 0, &found) == wanted, "shape %d, relation %d", shape, relation);
                 CHECK(found == -1, "shape %d, relation %d", shape, relation);
             }
+            char letters[10] = "unchanged";
+            CHECK((int)fadrinzo_relate(overlay, 0, letters) == wanted && !strcmp(letters, "unchanged"), "shape %d", shape);
             fadrinzo_free(overlay);
         }
 }
@@ -469,6 +497,9 @@ static void check_codes(fadrinzo *overlay)
         CHECK(fadrinzo_relation(overlay, wrong_relations[i], 1, &found) == FADRINZO_BAD_ARGUMENT && found == -1, "code %zu", i);
     CHECK(fadrinzo_relation(overlay, 0, 4, &found) == FADRINZO_BAD_ARGUMENT && found == -1, "fill 4");
     CHECK(fadrinzo_relation(overlay, 0, 1, NULL) == FADRINZO_BAD_ARGUMENT, "null");
+    char letters[10];
+    CHECK(fadrinzo_relate(overlay, 1, NULL) == FADRINZO_BAD_ARGUMENT, "null");
+    CHECK(fadrinzo_relate(overlay, 4, letters) == FADRINZO_BAD_ARGUMENT && fadrinzo_relate(NULL, 1, letters) == FADRINZO_BAD_ARGUMENT, "fill 4");
     CHECK(fadrinzo_relation(overlay, 0, 1, &found) == FADRINZO_OK && found == 0 && fadrinzo_get(overlay).contours == 1, "a relation");
     static const int wrong_shapes[] = {-1, 2, 256, 257, INT32_MIN};
     for (size_t i = 0; i < sizeof wrong_shapes / sizeof *wrong_shapes; i++) {

@@ -78,6 +78,7 @@ PLANTS = [
     Plant("the reach of an arrangement is its passes", RUST + "arrangement.rs", "reach: reach.number() })", "reach: passes.number() })"),
     Plant("an arrangement has made one pass", RUST + "arrangement.rs", "passes: passes.number(),", "passes: 1,"),
     Plant("within is covers", RUST + "relations.rs", "IsWithin = 2,\n    SameRegion = 3,", "IsWithin = 3,\n    SameRegion = 2,"),
+    Plant("rows of the matrix are exchanged", RUST + "relations.rs", "[interior, boundary, exterior]", "[interior, exterior, boundary]"),
     Plant("the clip is named for the subject", RUST + "relations.rs", "6 => Error::NotExact(ShapeType::Subject)", "6 => Error::NotExact(ShapeType::Clip)"),
     Plant("floats are cut", RUST + "float.rs", "(point[axis] - center[axis]) * scale).round()", "(point[axis] - center[axis]) * scale).trunc()"),
     Plant("parts are joined where the line left", RUST + "clip.rs", "(is_open || index > 0) &&", "(is_open || index < 9) &&", "clip_lines"),

@@ -18,7 +18,8 @@ import threading
 import weakref
 
 __all__ = ["Arrangement", "MAX_COORD", "MIN_COORD", "NotExactError", "OverlayError", "covers", "interiors_meet", "is_disjoint", "is_within",
-           "locate", "overlay", "overlay_by_rules", "overlay_polygons", "same_region", "touches"]
+           "locate", "overlay", "overlay_by_rules", "overlay_polygons", "relate", "relate_pattern", "same_region",
+           "touches"]
 
 MIN_COORD, MAX_COORD = -(1 << 30), (1 << 30) - 1
 
@@ -81,6 +82,7 @@ def _load():
         "arranged_shapes": (number, [handle, number, number]),
         "locate": (number, [handle, number, number, ctypes.c_int32, ctypes.c_int32]),
         "relation": (number, [handle, number, number, ctypes.POINTER(number)]),
+        "relate": (number, [handle, number, ctypes.c_char_p]),
         "get": (_Result, [handle]),
     }
     for name, (result, arguments) in calls.items():
@@ -519,3 +521,29 @@ def is_disjoint(subject, clip, fill="nonzero", scale=None):
     False
     """
     return _relation("disjoint", subject, clip, fill, scale)
+
+
+def relate(subject, clip, fill="nonzero", scale=None):
+    """Which parts of two lists of contours meet: nine letters, T where some point is in both parts and F where none is, row by row for the
+    interior, the boundary and the exterior of the subject, as OGC's matrix without dimensions. Arguments and errors are those of
+    `interiors_meet`.
+
+    >>> relate([[(0, 0), (4, 0), (4, 4), (0, 4)]], [[(4, 4), (6, 4), (6, 6), (4, 6)]])
+    'FFTFTTTTT'
+    """
+    fill_code, letters = _code("fill", fill, FILLS), ctypes.create_string_buffer(10)
+    with _loaded(subject, clip, scale) as handle:
+        _check(_calls().fadrinzo_relate(handle, fill_code, letters))
+        return letters.value.decode()
+
+
+def relate_pattern(subject, clip, pattern, fill="nonzero", scale=None):
+    """Whether the letters of `relate` are those of a pattern: T, F, or * for either. Other arguments and errors are those of
+    `interiors_meet`; ValueError where the pattern has other letters, as digits of dimensions, or not nine.
+
+    >>> relate_pattern([[(0, 0), (4, 0), (4, 4), (0, 4)]], [[(4, 4), (6, 4), (6, 6), (4, 6)]], "F***T****")
+    True
+    """
+    if not isinstance(pattern, str) or len(pattern) != 9 or not set(pattern) <= set("TF*"):
+        raise ValueError(f"the pattern {_shown(pattern)} is not nine letters of T, F and *")
+    return all(letter in ("*", found) for letter, found in zip(pattern, relate(subject, clip, fill, scale)))

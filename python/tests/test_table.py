@@ -63,6 +63,13 @@ def goes_straight_on(ring):
     return any((b[0] - a[0]) * (c[1] - b[1]) == (b[1] - a[1]) * (c[0] - b[0]) for a, b, c in corners)
 
 
+def part(squares, x, y):
+    """The part of a shape of unit squares in which a point at halves of a unit lies."""
+    around = itertools.product(range((x + 1) // 2 - 1, x // 2 + 1), range((y + 1) // 2 - 1, y // 2 + 1))
+    kinds = {at in squares for at in around}
+    return "B" if len(kinds) == 2 else "I" if True in kinds else "E"
+
+
 class Table(unittest.TestCase):
     def check(self, found, subject, clip, places, rule, fill):
         for x, y in places:
@@ -123,6 +130,13 @@ class Table(unittest.TestCase):
             wanted = (bool(s & c), c <= s, s <= c, s == c, share and not s & c, not share)
             found = tuple(call(subject, clip, fill=fill) for call in RELATIONS)
             self.assertEqual(found, wanted, (subject, clip, fill))
+            # a point at halves of a unit has one, two or four unit squares around it
+            parts = [[part(side, x, y) for x in range(21) for y in range(21)] for side in inside]
+            met = set(zip(*parts))
+            letters = "".join("FT"[pair in met] for pair in itertools.product("IBE", repeat=2))
+            self.assertEqual(fadrinzo.relate(subject, clip, fill=fill), letters, (subject, clip, fill))
+            self.assertTrue(fadrinzo.relate_pattern(subject, clip, letters[:4] + "*" + letters[5:], fill=fill))
+            self.assertFalse(fadrinzo.relate_pattern(subject, clip, letters.translate({ord("T"): "F", ord("F"): "T"}), fill=fill))
 
     def test_relations_without_rounding(self):
         # less than a tenth in common, less than a tenth apart, and two that touch
@@ -130,6 +144,12 @@ class Table(unittest.TestCase):
         for clip, wanted in [([(0, 0), (11, 1), (0, 1)], True), ([(0, 0), (9, 1), (0, 1)], False), ([(0, 0), (10, 1), (0, 1)], False)]:
             self.assertEqual(fadrinzo.interiors_meet(below, [clip]), wanted)
         self.assertTrue(fadrinzo.interiors_meet(below, [[(0, 0), (10, 0.9), (0, 1)]], scale=10))
+
+    def test_wrong_patterns(self):
+        for pattern in ("", "T" * 8, "T" * 10, "T*F**FFF2", "tttffffff", None, 3):
+            with self.assertRaises(ValueError) as caught:
+                fadrinzo.relate_pattern(SUBJECT, CLIP, pattern)
+            self.assertIn("is not nine letters of T, F and *", str(caught.exception))
 
     def test_shapes_that_cross_themselves_are_named(self):
         bow = [[(0, 0), (1, 1), (1, 0), (0, 1)]]

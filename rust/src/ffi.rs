@@ -79,6 +79,21 @@ pub struct Cross {
     pub mask: u8,
 }
 
+/// `MatrixRecord` of `crates/overlay_c`: which parts of the subject meet which parts of the clip.
+#[derive(Debug, Default)]
+#[repr(C)]
+pub struct Matrix {
+    pub interior_interior: bool,
+    pub interior_boundary: bool,
+    pub interior_exterior: bool,
+    pub boundary_interior: bool,
+    pub boundary_boundary: bool,
+    pub boundary_exterior: bool,
+    pub exterior_interior: bool,
+    pub exterior_boundary: bool,
+    pub exterior_exterior: bool,
+}
+
 extern "C" {
     fn overlay_c_cross(target: &Segment, other: &Segment, radius_squared: i64) -> Cross;
     fn overlay_c_new(handle: &mut Handle, snap_limit: u32) -> bool;
@@ -118,6 +133,7 @@ extern "C" {
     fn overlay_c_arranged_shapes(handle: &mut Handle, rule: u8, corners: bool) -> u8;
     fn overlay_c_locate(handle: &mut Handle, point: &IntPoint, shape: u8, fill: u8) -> u8;
     fn overlay_c_relation(handle: &mut Handle, settings: &Settings, code: u8, holds: &mut bool) -> u8;
+    fn overlay_c_relate(handle: &mut Handle, settings: &Settings, matrix: &mut Matrix) -> u8;
     fn overlay_c_report(handle: &mut Handle) -> Report;
     fn overlay_c_arranged_report(handle: &mut Handle) -> Report;
     fn overlay_c_clear(handle: &mut Handle);
@@ -303,6 +319,16 @@ impl Engine {
         // SAFETY: the handle is full. Nothing is required of codes.
         match unsafe { overlay_c_relation(&mut self.handle, settings, code, &mut holds) } {
             0 => Ok(holds),
+            status => Err(status),
+        }
+    }
+
+    /// Which parts of the subject meet which parts of the clip, or the status of a refusal.
+    pub fn relate(&mut self, settings: &Settings) -> Result<Matrix, u8> {
+        let mut matrix = Matrix::default();
+        // SAFETY: the handle is full. Nothing is required of codes.
+        match unsafe { overlay_c_relate(&mut self.handle, settings, &mut matrix) } {
+            0 => Ok(matrix),
             status => Err(status),
         }
     }

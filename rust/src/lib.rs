@@ -38,6 +38,7 @@ pub use measure::{bounding_box, doubled_area, doubled_area_of_shape, PointLocati
 pub use names::UnknownName;
 pub use overlay::{Change, Overlay};
 pub use point::{square, Engine, IntContour, IntPoint, IntShape, MAX_COORD, MIN_COORD};
+pub use relations::{Part, Relation};
 pub use rules::{ClipRule, FillRule, OverlayRule, RuleTable};
 pub use segment::{DataSegment, LineSegment, Segment, ShapeCountBoolean, ShapeType};
 pub use solver::{Precision, Rounding, Solver, Strategy};

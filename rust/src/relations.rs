@@ -1,16 +1,99 @@
 //! Relations of the subject and the clip, exactly.
 
-use crate::{Error, Fault, FillRule, FloatError, FloatOverlay, Overlay, ShapeType, Solver};
+use crate::{ffi, Error, Fault, FillRule, FloatError, FloatOverlay, Overlay, ShapeType, Solver};
+use std::fmt;
 
 /// The codes of relations in the archive.
 #[repr(u8)]
-enum Relation {
+enum Code {
     InteriorsMeet = 0,
     Covers = 1,
     IsWithin = 2,
     SameRegion = 3,
     Touch = 4,
     Disjoint = 5,
+}
+
+/// A part of the plane that a shape makes.
+#[derive(Clone, Copy, Debug, PartialEq, Eq, Hash)]
+pub enum Part {
+    /// The points inside the shape, without its boundary.
+    Interior = 0,
+    /// The points that have points inside and points outside near them, however near.
+    Boundary = 1,
+    /// The points outside the shape, without its boundary.
+    Exterior = 2,
+}
+
+/// Which parts of the subject meet which parts of the clip, as [`Overlay::relate`] returns it: OGC's matrix of nine entries,
+/// without the dimensions of points and lines.
+///
+/// It is written as nine letters, `T` where parts meet and `F` where they do not: row by row, the interior, the boundary and the
+/// exterior of the subject.
+#[derive(Clone, Copy, Debug, PartialEq, Eq, Hash)]
+pub struct Relation {
+    entries: [bool; 9],
+}
+
+impl Relation {
+    /// Whether some point of the plane is in this part of the subject and in this part of the clip.
+    pub fn meets(&self, of_subject: Part, of_clip: Part) -> bool {
+        self.entries[3 * of_subject as usize + of_clip as usize]
+    }
+
+    /// Whether the entries are those of a pattern of nine letters, as `T*F**FFF*`: `T` where parts have to meet, `F` where they
+    /// may not, and `*` where both will do. `None` where the pattern has other letters, or not nine of them: the dimension
+    /// of an entry, which a digit would ask for, is not known.
+    ///
+    /// ```
+    /// use fadrinzo::{square, FillRule, Overlay, Part};
+    ///
+    /// let mut overlay = Overlay::with_contours(&[square(0, 4)], &[square(4, 6)])?;
+    /// let corner = overlay.relate(FillRule::NonZero)?;
+    /// assert_eq!(corner.to_string(), "FFTFTTTTT");
+    /// assert!(corner.meets(Part::Boundary, Part::Boundary));
+    /// assert_eq!(corner.matches("F***T****"), Some(true));
+    /// assert_eq!(corner.matches("T********"), Some(false));
+    /// assert_eq!(corner.matches("0********"), None);
+    /// # Ok::<(), fadrinzo::Error>(())
+    /// ```
+    pub fn matches(&self, pattern: &str) -> Option<bool> {
+        if pattern.len() != self.entries.len() || !pattern.bytes().all(|letter| b"TF*".contains(&letter)) {
+            return None;
+        }
+        let fits = |(letter, meet): (u8, &bool)| letter == b'*' || (letter == b'T') == *meet;
+        Some(pattern.bytes().zip(&self.entries).all(fits))
+    }
+}
+
+impl fmt::Display for Relation {
+    fn fmt(&self, f: &mut fmt::Formatter<'_>) -> fmt::Result {
+        self.entries.iter().try_for_each(|&meet| f.write_str(if meet { "T" } else { "F" }))
+    }
+}
+
+impl From<ffi::Matrix> for Relation {
+    fn from(matrix: ffi::Matrix) -> Relation {
+        let ffi::Matrix {
+            interior_interior,
+            interior_boundary,
+            interior_exterior,
+            boundary_interior,
+            boundary_boundary,
+            boundary_exterior,
+            exterior_interior,
+            exterior_boundary,
+            exterior_exterior,
+        } = matrix;
+        let interior = [interior_interior, interior_boundary, interior_exterior];
+        let boundary = [boundary_interior, boundary_boundary, boundary_exterior];
+        let exterior = [exterior_interior, exterior_boundary, exterior_exterior];
+        let mut entries = [false; 9];
+        for (entry, meet) in entries.iter_mut().zip([interior, boundary, exterior].iter().flatten()) {
+            *entry = *meet;
+        }
+        Relation { entries }
+    }
 }
 
 /// Relations of the subject and the clip that were added. Nothing is rounded, and each result is proved.
@@ -43,7 +126,7 @@ impl Overlay {
     /// # Ok::<(), fadrinzo::Error>(())
     /// ```
     pub fn interiors_meet(&mut self, fill_rule: FillRule) -> Result<bool, Error> {
-        self.holds(Relation::InteriorsMeet, fill_rule)
+        self.holds(Code::InteriorsMeet, fill_rule)
     }
 
     /// Whether each point inside the clip is inside the subject. Every shape covers one with nothing inside.
@@ -57,7 +140,7 @@ impl Overlay {
     /// # Ok::<(), fadrinzo::Error>(())
     /// ```
     pub fn covers(&mut self, fill_rule: FillRule) -> Result<bool, Error> {
-        self.holds(Relation::Covers, fill_rule)
+        self.holds(Code::Covers, fill_rule)
     }
 
     /// Whether each point inside the subject is inside the clip.
@@ -71,7 +154,7 @@ impl Overlay {
     /// # Ok::<(), fadrinzo::Error>(())
     /// ```
     pub fn is_within(&mut self, fill_rule: FillRule) -> Result<bool, Error> {
-        self.holds(Relation::IsWithin, fill_rule)
+        self.holds(Code::IsWithin, fill_rule)
     }
 
     /// Whether each point is inside both shapes, or inside neither.
@@ -88,7 +171,7 @@ impl Overlay {
     /// # Ok::<(), fadrinzo::Error>(())
     /// ```
     pub fn same_region(&mut self, fill_rule: FillRule) -> Result<bool, Error> {
-        self.holds(Relation::SameRegion, fill_rule)
+        self.holds(Code::SameRegion, fill_rule)
     }
 
     /// Whether the shapes share a point, inside or on their boundaries, and no point is inside both.
@@ -105,7 +188,7 @@ impl Overlay {
     /// # Ok::<(), fadrinzo::Error>(())
     /// ```
     pub fn touches(&mut self, fill_rule: FillRule) -> Result<bool, Error> {
-        self.holds(Relation::Touch, fill_rule)
+        self.holds(Code::Touch, fill_rule)
     }
 
     /// Whether the shapes share no point, neither inside nor on their boundaries.
@@ -120,18 +203,38 @@ impl Overlay {
     /// # Ok::<(), fadrinzo::Error>(())
     /// ```
     pub fn is_disjoint(&mut self, fill_rule: FillRule) -> Result<bool, Error> {
-        self.holds(Relation::Disjoint, fill_rule)
+        self.holds(Code::Disjoint, fill_rule)
+    }
+
+    /// Which parts of the subject meet which parts of the clip: the interior, the boundary and the exterior of each. An empty shape
+    /// has its exterior alone.
+    ///
+    /// ```
+    /// use fadrinzo::{square, FillRule, Overlay};
+    ///
+    /// let mut overlay = Overlay::with_contours(&[square(0, 4)], &[square(0, 4)])?;
+    /// assert_eq!(overlay.relate(FillRule::NonZero)?.to_string(), "TFFFTFFFT");
+    /// # Ok::<(), fadrinzo::Error>(())
+    /// ```
+    pub fn relate(&mut self, fill_rule: FillRule) -> Result<Relation, Error> {
+        let settings = self.settings(Solver::AUTO, fill_rule);
+        self.engine.relate(&settings).map(Relation::from).map_err(error_of)
     }
 
     /// Whether a relation holds.
-    fn holds(&mut self, relation: Relation, fill_rule: FillRule) -> Result<bool, Error> {
+    fn holds(&mut self, code: Code, fill_rule: FillRule) -> Result<bool, Error> {
         let settings = self.settings(Solver::AUTO, fill_rule);
-        self.engine.relation(&settings, relation as u8).map_err(|status| match status {
-            1 => Error::Fault(Fault::Memory),
-            6 => Error::NotExact(ShapeType::Subject),
-            7 => Error::NotExact(ShapeType::Clip),
-            _ => Error::Fault(Fault::CountOutOfRange),
-        })
+        self.engine.relation(&settings, code as u8).map_err(error_of)
+    }
+}
+
+/// The error of a status.
+fn error_of(status: u8) -> Error {
+    match status {
+        1 => Error::Fault(Fault::Memory),
+        6 => Error::NotExact(ShapeType::Subject),
+        7 => Error::NotExact(ShapeType::Clip),
+        _ => Error::Fault(Fault::CountOutOfRange),
     }
 }
 
@@ -181,5 +284,10 @@ impl FloatOverlay {
     /// Whether the shapes share no point, neither inside nor on their boundaries.
     pub fn is_disjoint(&mut self, fill_rule: FillRule) -> Result<bool, FloatError> {
         Ok(self.overlay.is_disjoint(fill_rule)?)
+    }
+
+    /// Which parts of the subject meet which parts of the clip, as [`Overlay::relate`] returns it.
+    pub fn relate(&mut self, fill_rule: FillRule) -> Result<Relation, FloatError> {
+        Ok(self.overlay.relate(fill_rule)?)
     }
 }

@@ -6,7 +6,7 @@
 mod common;
 
 use common::Random;
-use fadrinzo::{Error, FillRule, IntPoint, Overlay, ShapeType};
+use fadrinzo::{Error, FillRule, IntPoint, Overlay, Part, ShapeType};
 use std::cmp::Ordering;
 
 type Contours = Vec<Vec<IntPoint>>;
@@ -19,6 +19,8 @@ const RELATIONS: [fn(&mut Overlay, FillRule) -> Result<bool, Error>; 6] = [
     Overlay::touches,
     Overlay::is_disjoint,
 ];
+
+const PARTS: [Part; 3] = [Part::Interior, Part::Boundary, Part::Exterior];
 
 const FILLS: [FillRule; 4] = [FillRule::EvenOdd, FillRule::NonZero, FillRule::Positive, FillRule::Negative];
 
@@ -105,39 +107,95 @@ fn is_inside(fill_rule: FillRule, winding: i32) -> bool {
     }
 }
 
-/// What two shapes have in common, by their cells.
-#[derive(Default)]
-struct Common {
-    in_both: bool,
-    in_subject_alone: bool,
-    in_clip_alone: bool,
-    /// For each side of a slab and each shape the closed intervals in which its cells meet that side.
-    sides: Vec<[Vec<[Fraction; 2]>; 2]>,
+/// A side of a slab: the heights between which cells of each shape meet it from the left and from the right, and those of its boundary.
+#[derive(Clone, Default)]
+struct Side {
+    cells: [[Vec<[Fraction; 2]>; 2]; 2],
+    boundaries: [Vec<[Fraction; 2]>; 2],
 }
 
-impl Common {
+/// Which parts of two shapes meet, by the cells of slabs, the lines between cells, and the sides of slabs.
+struct Matrix {
+    meet: [[bool; 3]; 3],
+    sides: Vec<Side>,
+}
+
+/// The part in which points lie that have the inside or the outside of a shape on each of two sides.
+fn part_between(one: bool, other: bool) -> Part {
+    match (one, other) {
+        (true, true) => Part::Interior,
+        (false, false) => Part::Exterior,
+        _ => Part::Boundary,
+    }
+}
+
+impl Matrix {
+    fn add(&mut self, [of_subject, of_clip]: [Part; 2]) {
+        self.meet[of_subject as usize][of_clip as usize] = true;
+    }
+
     /// Adds a cell between two edges, in the slab at an index.
-    fn add(&mut self, slabs: &[Fraction], index: usize, edges: [&Edge; 2], inside: [bool; 2]) {
-        let [subject, clip] = inside;
-        self.in_both |= subject && clip;
-        self.in_subject_alone |= subject && !clip;
-        self.in_clip_alone |= clip && !subject;
+    fn add_cell(&mut self, slabs: &[Fraction], index: usize, edges: [&Edge; 2], inside: [bool; 2]) {
+        self.add(inside.map(|inside| part_between(inside, inside)));
         for shape in (0..2).filter(|&shape| inside[shape]) {
-            for side in [index, index + 1] {
-                self.sides[side][shape].push(edges.map(|edge| edge.height(slabs[side])));
+            for (from, side) in [(1, index), (0, index + 1)] {
+                self.sides[side].cells[from][shape].push(edges.map(|edge| edge.height(slabs[side])));
             }
         }
     }
 
-    /// Whether the closed shapes share a point: if they do, they share one on the side of a slab.
-    fn share_a_point(&self) -> bool {
+    /// Adds an edge between what lies below and above it, in the slab at an index.
+    fn add_edge(&mut self, slabs: &[Fraction], index: usize, edge: &Edge, below: [bool; 2], above: [bool; 2]) {
+        let parts = [0, 1].map(|shape| part_between(below[shape], above[shape]));
+        self.add(parts);
+        for shape in (0..2).filter(|&shape| parts[shape] == Part::Boundary) {
+            for side in [index, index + 1] {
+                let height = edge.height(slabs[side]);
+                self.sides[side].boundaries[shape].push([height, height]);
+            }
+        }
+    }
+
+    /// Adds the pieces of a side of a slab, and whether both boundaries have a point of it.
+    fn add_side(&mut self, side: usize) {
+        let Side { cells, mut boundaries } = std::mem::take(&mut self.sides[side]);
+        let mut heights: Vec<Fraction> = cells.iter().flatten().flatten().flatten().copied().collect();
+        heights.sort_unstable_by(Fraction::order);
+        heights.dedup_by(|x, y| x.order(y).is_eq());
+        for pair in heights.windows(2) {
+            let middle = pair[0].middle(pair[1]);
+            let has = |cells: &[[Fraction; 2]]| {
+                cells.iter().any(|[low, high]| low.order(&middle).is_lt() && middle.order(high).is_lt())
+            };
+            let parts = [0, 1].map(|shape| part_between(has(&cells[0][shape]), has(&cells[1][shape])));
+            self.add(parts);
+            for shape in (0..2).filter(|&shape| parts[shape] == Part::Boundary) {
+                boundaries[shape].push([pair[0], pair[1]]);
+            }
+        }
         let meet = |[a, b]: &[Fraction; 2], [c, d]: &[Fraction; 2]| a.order(d).is_le() && c.order(b).is_le();
-        self.sides.iter().any(|[subject, clip]| subject.iter().any(|one| clip.iter().any(|other| meet(one, other))))
+        if boundaries[0].iter().any(|one| boundaries[1].iter().any(|other| meet(one, other))) {
+            self.add([Part::Boundary; 2]);
+        }
+    }
+
+    fn meets(&self, of_subject: Part, of_clip: Part) -> bool {
+        self.meet[of_subject as usize][of_clip as usize]
+    }
+
+    /// Whether interiors meet, the subject covers the clip, it is within it, both are one region, touch, and are disjoint.
+    fn relations(&self) -> [bool; 6] {
+        let in_both = self.meets(Part::Interior, Part::Interior);
+        let covers = !self.meets(Part::Exterior, Part::Interior);
+        let is_within = !self.meets(Part::Interior, Part::Exterior);
+        let closed = [Part::Interior, Part::Boundary];
+        let share = closed.iter().any(|&of_subject| closed.iter().any(|&of_clip| self.meets(of_subject, of_clip)));
+        [in_both, covers, is_within, covers && is_within, share && !in_both, !share]
     }
 }
 
-/// The cells of two shapes.
-fn cells(shapes: [&Contours; 2], fill_rule: FillRule) -> Common {
+/// Which parts of two shapes meet.
+fn matrix(shapes: [&Contours; 2], fill_rule: FillRule) -> Matrix {
     let all = shapes.map(steps);
     let mut edges = Vec::new();
     for (shape, steps) in all.iter().enumerate() {
@@ -149,22 +207,29 @@ fn cells(shapes: [&Contours; 2], fill_rule: FillRule) -> Common {
         }
     }
     let slabs = slabs(&all.concat());
-    let mut common = Common { sides: vec![Default::default(); slabs.len()], ..Common::default() };
+    let mut matrix = Matrix { meet: [[false; 3]; 3], sides: vec![Side::default(); slabs.len()] };
+    matrix.add([Part::Exterior; 2]);
     for (index, pair) in slabs.windows(2).enumerate() {
         let x = pair[0].middle(pair[1]);
         let mut row: Vec<_> = edges.iter().filter(|edge| edge.spans(x)).map(|edge| (edge.height(x), edge)).collect();
         row.sort_by(|one, other| one.0.order(&other.0));
-        let mut winding = [0; 2];
-        for pair in row.windows(2) {
-            let [(height, edge), (above, next)] = [pair[0], pair[1]];
+        let (mut winding, mut below) = ([0; 2], [false; 2]);
+        for (at, (height, edge)) in row.iter().enumerate() {
             winding = [winding[0] + edge.counts[0], winding[1] + edge.counts[1]];
             // edges at one height are on one line: nothing lies between them
-            if height.order(&above).is_lt() {
-                common.add(&slabs, index, [edge, next], winding.map(|winding| is_inside(fill_rule, winding)));
+            let next = row.get(at + 1);
+            if next.is_none_or(|(higher, _)| height.order(higher).is_lt()) {
+                let above = winding.map(|winding| is_inside(fill_rule, winding));
+                matrix.add_edge(&slabs, index, edge, below, above);
+                if let Some((_, next)) = next {
+                    matrix.add_cell(&slabs, index, [edge, next], above);
+                }
+                below = above;
             }
         }
     }
-    common
+    (0..slabs.len()).for_each(|side| matrix.add_side(side));
+    matrix
 }
 
 fn point(random: &mut Random, size: i32) -> IntPoint {
@@ -269,11 +334,12 @@ fn compare(seed: u64, pairs: usize) -> (usize, [usize; 6]) {
             assert!(found.iter().all(|it| *it == found[0]), "{subject:?} {clip:?} {fill_rule}");
             continue;
         }
-        let common = cells([&subject, &clip], fill_rule);
-        let (covers, is_within) = (!common.in_clip_alone, !common.in_subject_alone);
-        let share = common.share_a_point();
-        let wanted = [common.in_both, covers, is_within, covers && is_within, share && !common.in_both, !share];
+        let by_definition = matrix([&subject, &clip], fill_rule);
+        let wanted = by_definition.relations();
         assert_eq!(found, wanted.map(Ok), "{subject:?} {clip:?} {fill_rule}");
+        let relation = overlay.relate(fill_rule).unwrap();
+        let met = PARTS.map(|of_subject| PARTS.map(|of_clip| relation.meets(of_subject, of_clip)));
+        assert_eq!(met, by_definition.meet, "{subject:?} {clip:?} {fill_rule}");
         decided += 1;
         held = [0, 1, 2, 3, 4, 5].map(|relation| held[relation] + usize::from(wanted[relation]));
     }

@@ -3,7 +3,9 @@
 mod common;
 
 use common::Random;
-use fadrinzo::{square, Error, FillRule, FloatError, FloatOverlay, IntPoint, Overlay, OverlayRule, ShapeType};
+use fadrinzo::{square, Error, FillRule, FloatError, FloatOverlay, IntPoint, Overlay, OverlayRule, Part, ShapeType};
+
+const PARTS: [Part; 3] = [Part::Interior, Part::Boundary, Part::Exterior];
 
 const CALLS: [fn(&mut Overlay, FillRule) -> Result<bool, Error>; 6] = [
     Overlay::interiors_meet,
@@ -81,6 +83,23 @@ fn relations_of_rectangles() {
                 !share,
             ];
             assert_eq!(relations(&mut overlay, fill_rule), Ok(wanted), "{shapes:?} {fill_rule}");
+            // a point at halves of a unit has one, two or four unit squares around it
+            let part = |contours: &[Vec<IntPoint>], x: i32, y: i32| {
+                let around = ((x + 1) / 2 - 1..=x / 2).flat_map(|at| ((y + 1) / 2 - 1..=y / 2).map(move |of| (at, of)));
+                match around.map(|(x, y)| inside(contours, x, y)).fold((false, false), |(i, o), it| (i || it, o || !it))
+                {
+                    (true, true) => Part::Boundary,
+                    (is_inside, _) if is_inside => Part::Interior,
+                    _ => Part::Exterior,
+                }
+            };
+            let halves = (0..18).flat_map(|x| (0..18).map(move |y| (x, y)));
+            let meeting: Vec<_> = halves.map(|(x, y)| (part(subject, x, y), part(clip, x, y))).collect();
+            let relation = overlay.relate(fill_rule).unwrap();
+            let letters = PARTS.iter().flat_map(|one| PARTS.iter().map(move |other| (*one, *other)));
+            let letters: String = letters.map(|pair| if meeting.contains(&pair) { 'T' } else { 'F' }).collect();
+            assert_eq!(relation.to_string(), letters, "{shapes:?} {fill_rule}");
+            assert_eq!(relation.matches(&letters), Some(true));
             for (counts, holds) in seen.iter_mut().zip(wanted) {
                 counts[usize::from(holds)] += 1;
             }
@@ -117,6 +136,7 @@ fn shapes_that_cross_themselves_are_named() {
         for call in CALLS {
             let refused = call(&mut overlay, FillRule::EvenOdd).unwrap_err();
             assert_eq!(refused, Error::NotExact(shape_type));
+            assert_eq!(overlay.relate(FillRule::EvenOdd), Err(Error::NotExact(shape_type)));
             assert!(refused.to_string().contains(&format!("two edges of the {shape_type} cross")));
         }
         let alone = overlay.overlay(OverlayRule::Union, FillRule::EvenOdd).unwrap();
@@ -134,4 +154,5 @@ fn shapes_that_cross_themselves_are_named() {
     assert_eq!(overlay.same_region(FillRule::EvenOdd), refused);
     assert_eq!(overlay.touches(FillRule::EvenOdd), refused);
     assert_eq!(overlay.is_disjoint(FillRule::EvenOdd), refused);
+    assert_eq!(overlay.relate(FillRule::EvenOdd).map(|_| false), refused);
 }

@@ -1,5 +1,5 @@
 -- Why it is not known whether a relation of shapes in range holds.
-use Rattle.std.proofs.Common.{◌≡◌, refl, sym, subst, inl, List, ◌∷◌}
+use Rattle.std.proofs.Common.{◌≡◌, refl, sym, subst, ◌∙◌, inl, List, ◌∷◌}
 use Rattle.std.specs.Prelude.{◌↔◌, ℤ, IsTrue, Bool, true, Result, IfOk, IfErr}
 use Rattle.std.specs.List.{list_all}
 use Rattle.std.proofs.lemmas.Bool.{both_ways}
@@ -13,10 +13,15 @@ use Rattle.overlay_base.specs.declared.segm.shape_type.ShapeType.TheVariants.{Su
 use Rattle.overlay_contours.specs.ContourSegments.{are_in_range, IsFirstOutside}
 use Rattle.overlay_contours.specs.Refusals.{of_shape}
 use Rattle.overlay_contours.specs.declared.fault.ContourFault.TheVariants as contour
+use Rattle.overlay_relations.specs.Matrix.{entry, IsMatrix}
 use Rattle.overlay_relations.specs.Refusals.{IsRefusal}
+use Rattle.overlay_relations.specs.declared.matrix.Part.{Part}
+use Rattle.overlay_relations.specs.declared.matrix.Relation.{Relation as PartsRelation}
 use Rattle.overlay_relations.specs.declared.fault.RelationFault.{RelationFault}
 use Rattle.overlay_relations.specs.declared.fault.RelationFault.TheVariants.{NotExact, Refused}
 use Rattle.overlay_c.specs.Relations.{Holds, IsRelationRefusal}
+use Rattle.overlay_c.specs.Matrices.{entry_by, IsMatrixBy}
+use Rattle.overlay_c.specs.declared.relations.MatrixRecord.{MatrixRecord}
 use Rattle.overlay_c.specs.declared.relations.Relation.{Relation}
 
 -- of contours in range no point is the first one out of range
@@ -54,3 +59,17 @@ module _ (fill_rule : FillRule) (subject clip given_subject given_clip : List (L
       subst (λ (r : Relation). IfOk result (λ (h : Bool). (h ≡ true) ↔ Holds r fill_rule subject clip)) (sym er)
       (subst (λ (l : List (List Point)). IfOk result (λ (h : Bool). (h ≡ true) ↔ Holds named fill_rule l clip)) es
       (subst (λ (l : List (List Point)). IfOk result (λ (h : Bool). (h ≡ true) ↔ Holds named fill_rule given_subject l)) ec h))
+
+-- The entries of a record are those of the matrix of such contours.
+pub matrix_of : (fill_rule : FillRule) (subject clip given_subject given_clip : List (List Point)) → given_subject ≡ subject → given_clip ≡ clip → (relation : PartsRelation) (m : MatrixRecord)
+    → ((p q : Part) → entry_by m p q ≡ entry relation p q) → IsMatrix fill_rule fill_rule given_subject given_clip relation → IsMatrixBy fill_rule subject clip m
+matrix_of fill_rule subject clip given_subject given_clip es ec relation m e is =
+    subst (λ (l : List (List Point)). IsMatrixBy fill_rule l clip m) es
+    (subst (λ (l : List (List Point)). IsMatrixBy fill_rule given_subject l m) ec (λ p q. (λ h. (is p q).0 (sym (e p q) ∙ h), λ h. e p q ∙ (is p q).1 h)))
+
+-- and why there is none
+pub matrix_refuses : (least greatest : ℤ) (fill_rule : FillRule) (subject clip given_subject given_clip : List (List Point)) → given_subject ≡ subject → given_clip ≡ clip → IsTrue (are_in_range least greatest given_subject)
+    → IsTrue (are_in_range least greatest given_clip) → (fault : RelationFault) → IsRefusal least greatest fill_rule fill_rule given_subject given_clip fault → IsRelationRefusal fill_rule subject clip fault
+matrix_refuses least greatest fill_rule subject clip given_subject given_clip es ec s c fault r =
+    subst (λ (l : List (List Point)). IsRelationRefusal fill_rule l clip fault) es
+    (subst (λ (l : List (List Point)). IsRelationRefusal fill_rule given_subject l fault) ec (relation_refuses least greatest fill_rule given_subject given_clip s c fault r))

@@ -3,6 +3,7 @@ pub mod Contours
 pub mod Arranged
 pub mod Crosses
 pub mod Kept
+pub mod Matrices
 pub mod Owned
 pub mod Records
 pub mod Relations

@@ -11,7 +11,7 @@ use crate::records::{
     overlay_rules, rounding, solver, words, write_links, write_records,
 };
 use crate::refusal::Refusal;
-use crate::relations::{Relation, holds};
+use crate::relations::{MatrixRecord, Relation, holds, matrix};
 use crate::tags::{Tag, TaggedRecord};
 use crate::width::is_narrow;
 use overlay_base::overlay_core::clip_rule::ClipRule;
@@ -61,6 +61,7 @@ impl Engine {
     ghost use Rattle.overlay_c.specs.Contours.{point_by, are_in_range, location_code, contours_in, IsPointRefusal, IsPolygonRefusal};
     ghost use Rattle.overlay_c.specs.Contours.{KeepsPolygons, KeepsShapes, SameSplit, SameReport};
     ghost use Rattle.overlay_c.specs.Records.{fill_rule_of};
+    ghost use Rattle.overlay_c.specs.Matrices.{IsMatrixBy};
     ghost use Rattle.overlay_c.specs.Relations.{Holds, IsRelationRefusal};
     ghost use Rattle.overlay_c.specs.Arranged.{KeepsArrangement, KeepsArrangedContours, KeepsArrangedShapes, IsArrangedRefusal, SameArrangement, IsReportOf, IsReportOfNothing};
 
@@ -595,6 +596,21 @@ impl Engine {
             &solver(settings),
             fill_rule,
         )
+    }
+
+    /// Which parts of the subject and the clip that were added meet, under the fill rule of the settings.
+    pub fn relate(
+        &self,
+        alloc: Global,
+        settings: &SettingsRecord,
+    ) -> Result<MatrixRecord, RelationFault>
+        ensures matrix { IfOk result (IsMatrixBy (fill_rule_of settings.now.fill_rule) (contours_in self.now Subject)
+            (contours_in self.now Clip)) }
+        ensures refused { IfErr result (IsRelationRefusal (fill_rule_of settings.now.fill_rule) (contours_in self.now Subject)
+            (contours_in self.now Clip)) }
+    {
+        let fill_rule = fill_rule(settings.fill_rule);
+        matrix(alloc, &self.polygons, &solver(settings), fill_rule)
     }
 
     /// What the last overlay of contours that was not refused reports of its run.

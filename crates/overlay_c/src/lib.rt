@@ -18,6 +18,7 @@ ghost use Rattle.overlay_base.specs.declared.segm.shape_type.ShapeType.TheVarian
 ghost use Rattle.overlay_contours.specs.Kept.{passes_of, reach_of};
 ghost use Rattle.overlay_contours.specs.Refusals.{other_shape};
 ghost use Rattle.overlay_c.specs.Contours.{are_in_range, location_code, contours_in, SameSplit, SameReport};
+ghost use Rattle.overlay_c.specs.Matrices.{IsMatrixBy};
 ghost use Rattle.overlay_c.specs.Relations.{relation_of, Holds, ShapeCountsLeaveRange, IsRelationCode};
 ghost use Rattle.overlay_relations.specs.Refusals.{IsNotExact};
 
@@ -43,7 +44,7 @@ use crate::records::{
     overlay_rule, shape_type,
 };
 use crate::refusal::status;
-use crate::relations::{fault_code, named_relation};
+use crate::relations::{MatrixRecord, fault_code, named_relation};
 use crate::tags::{Tag, TaggedRecord};
 use overlay_base::overlay_core::clip_rule::ClipRule;
 use std::alloc::Global;
@@ -548,6 +549,42 @@ pub extern "C" fn overlay_c_relation(
             0
         }
         Err(fault) => fault_code(fault),
+    }
+}
+
+/// Which parts of the subject meet which parts of the clip that were added, exactly: the inside, the boundary and the outside of
+/// each. A point is on the boundary of a shape if there are points inside and outside of it, however near to it. Of the settings
+/// it takes the strategy and the fill rule. Returns as `overlay_c_relation` does; after any other code than 0 `matrix` is
+/// unchanged.
+#[unsafe(no_mangle)]
+pub extern "C" fn overlay_c_relate(
+    alloc: Global,
+    handle: &mut Handle,
+    settings: &SettingsRecord,
+    matrix: &mut MatrixRecord,
+) -> u8
+    requires { IsSome handle.old.engine }
+    ensures same { handle.new.engine ≡ handle.old.engine }
+    ensures matrix { result ≡ 0 → IfSome handle.old.engine (λ engine. IsMatrixBy (fill_rule_of settings.now.fill_rule)
+        (contours_in engine Subject) (contours_in engine Clip) matrix.new) }
+    ensures unchanged { result ≢ 0 → matrix.new ≡ matrix.old }
+    ensures too_large { result ≡ 2 → IfSome handle.old.engine (λ engine. ShapeCountsLeaveRange
+        (fill_rule_of settings.now.fill_rule) (contours_in engine Subject) (contours_in engine Clip)) }
+    ensures subject_not_exact { result ≡ 6 → IfSome handle.old.engine (λ engine. IsNotExact (contours_in engine Subject)
+        (contours_in engine Clip) Subject) }
+    ensures clip_not_exact { result ≡ 7 → IfSome handle.old.engine (λ engine. IsNotExact (contours_in engine Subject)
+        (contours_in engine Clip) Clip) }
+    ensures codes { IsRelationCode result }
+{
+    let engine = take(alloc, handle);
+    let outcome = engine.relate(alloc, settings);
+    put(handle, engine);
+    match outcome {
+        Ok(found) => {
+            *matrix = found;
+            0
+        }
+        Err(refused) => fault_code(refused),
     }
 }
 
