@@ -4,4 +4,6 @@
 #[cfg(test)]
 mod contacts;
 #[cfg(test)]
+mod matrix;
+#[cfg(test)]
 mod predicates;
