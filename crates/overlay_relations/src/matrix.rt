@@ -124,7 +124,7 @@ pub(crate) fn boundary_relation<I: OverlayInt>(
     Ok(relation)
 }
 
-/// The relation of shapes each part of which meets each part of the other.
+/// The relation of two shapes where all parts meet.
 fn all_meet() -> Relation
     ensures { (of_subject of_clip : _) → entry result of_subject of_clip ≡ true }
 {
