@@ -3,4 +3,5 @@
 
 pub mod clip;
 pub(crate) mod line;
+pub mod overlay;
 pub mod tile;

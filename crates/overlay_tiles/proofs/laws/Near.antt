@@ -1,6 +1,6 @@
 -- Each step of clipped contours that runs along no axis lies within half a unit of a given one that runs along no axis.
 use Rattle.std.proofs.Common.{◌≡◌, ◌⊎◌, inl, inr, sym, subst, ◌∙◌, true, false, List, [], ◌∷◌}
-use Rattle.std.specs.Prelude.{ℤ, ◌≤ℤ◌, IsTrue, map}
+use Rattle.std.specs.Prelude.{◌≤ℤ◌, IsTrue, map}
 use Rattle.std.specs.List.{AllByRecursion}
 use Rattle.std.proofs.lemmas.List.Elements.{All-from_recursion}
 use Rattle.overlay_geometry.proofs.laws.lists.Elements.{Contains-from_Has}

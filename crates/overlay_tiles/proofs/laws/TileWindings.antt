@@ -96,7 +96,7 @@ shape_ordered shape_type contours t i =
     let step = Has-map_out (step_segment shape_type) (filter is_edge (steps contours)) t i in
     subst (λ (w : WholeSegment). is_ordered w.pair ≡ true) step.2 (step_ordered shape_type step.0 (Has-filter_out is_edge (steps contours) step.0 step.1).1)
 
-overlay_ordered : (subject clip : List (List Point)) → IsTrue (are_ordered (overlay_segments subject clip))
+pub overlay_ordered : (subject clip : List (List Point)) → IsTrue (are_ordered (overlay_segments subject clip))
 unfolding overlay_segments
 overlay_ordered subject clip =
     list_all-from_Has (λ s. is_ordered s.pair) (contour_segments Subject subject ++ contour_segments Clip clip)
