@@ -4,4 +4,6 @@
 #[cfg(test)]
 mod clip;
 #[cfg(test)]
+mod overlay;
+#[cfg(test)]
 mod tile;
