@@ -42,8 +42,8 @@ impl Relation {
     }
 
     /// Whether the entries are those of a pattern of nine letters, as `T*F**FFF*`: `T` where parts have to meet, `F` where they
-    /// may not, and `*` where both will do. `None` where the pattern has other letters, or not nine of them: the dimension
-    /// of an entry, which a digit would ask for, is not known.
+    /// may not, and `*` where both will do. `None` where the pattern has other letters, or not nine of them. Digits are refused,
+    /// since the dimension of an entry is not known.
     ///
     /// ```
     /// use fadrinzo::{square, FillRule, Overlay, Part};
