@@ -117,12 +117,7 @@ fn contours_from(alloc: Global, corners: Corners) -> Result<Vec<IntContour<i32>>
 }
 
 /// The part of an overlay between two numbers in `x`, and from 0 to 10 in `y`.
-fn part(
-    alloc: Global,
-    min_x: i32,
-    max_x: i32,
-    row: &Row,
-) -> Result<Vec<IntContour<i32>>, Fail> {
+fn part(alloc: Global, min_x: i32, max_x: i32, row: &Row) -> Result<Vec<IntContour<i32>>, Fail> {
     let rect = IntRect {
         min_x,
         max_x,

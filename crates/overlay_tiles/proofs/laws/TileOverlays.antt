@@ -241,9 +241,10 @@ module _ (tile : Rect) (is : IsTile tile) (rule : OverlayRule) (fill_rule : Fill
 
   edge_ends : (e : Pair) → Has (edges answer) e → EndsIn tile e
   edge_ends e i =
-      let there = Has-from_Contains (pairs overlay.arrangement) e (All-contains (Contains (pairs overlay.arrangement)) (edges answer) e overlay.arranged (Contains-from_Has (edges answer) e i)) in
-      (from_box tile is e.a (list_all-at (within tile is) (ends (pairs overlay.arrangement)) e.a found_ends (Has-flat_map ends_of (pairs overlay.arrangement) e e.a there (inl refl))),
-      from_box tile is e.b (list_all-at (within tile is) (ends (pairs overlay.arrangement)) e.b found_ends (Has-flat_map ends_of (pairs overlay.arrangement) e e.b there (inr (inl refl)))))
+      let there = Has-from_Contains (pairs overlay.arrangement) e (All-contains (Contains (pairs overlay.arrangement)) (edges answer) e overlay.arranged (Contains-from_Has (edges answer) e i)) in (
+        from_box tile is e.a (list_all-at (within tile is) (ends (pairs overlay.arrangement)) e.a found_ends (Has-flat_map ends_of (pairs overlay.arrangement) e e.a there (inl refl))),
+        from_box tile is e.b (list_all-at (within tile is) (ends (pairs overlay.arrangement)) e.b found_ends (Has-flat_map ends_of (pairs overlay.arrangement) e e.b there (inr (inl refl)))),
+      )
 
   start_in : (s : Pair) → EndsIn tile (in_order s) → LiesInTile tile s.a
   start_in s h = by (point_lt s.a s.b) refl h
