@@ -16,6 +16,7 @@ use std::test::Fail;
 type Corners = &'static [(i32, i32)];
 
 /// The rules of the tables.
+#[derive(Clone, Copy)]
 enum Named {
     Subject,
     Intersect,
@@ -23,7 +24,8 @@ enum Named {
     Xor,
 }
 
-/// A contour of each shape, and the one of their overlay in the tile, or none.
+/// A contour of each shape, and the one of their overlay in the tile, or none. It starts at the end of its least edge.
+#[derive(Clone, Copy)]
 struct Row {
     name: &'static str,
     subject: Corners,
@@ -38,7 +40,7 @@ static ROWS: [Row; 9] = [
         subject: &[(-5, -5), (6, -5), (6, 6), (-5, 6)],
         clip: &[(3, 3), (15, 3), (15, 15), (3, 15)],
         rule: Named::Intersect,
-        part: &[(3, 3), (6, 3), (6, 6), (3, 6)],
+        part: &[(3, 6), (3, 3), (6, 3), (6, 6)],
     },
     Row {
         name: "two squares, what is in one",
@@ -46,6 +48,7 @@ static ROWS: [Row; 9] = [
         clip: &[(3, 3), (15, 3), (15, 15), (3, 15)],
         rule: Named::Union,
         part: &[
+            (0, 6),
             (0, 0),
             (6, 0),
             (6, 3),
@@ -53,7 +56,6 @@ static ROWS: [Row; 9] = [
             (10, 10),
             (3, 10),
             (3, 6),
-            (0, 6),
         ],
     },
     Row {
@@ -61,7 +63,7 @@ static ROWS: [Row; 9] = [
         subject: &[(-5, -5), (15, -5), (15, 15), (-5, 15)],
         clip: &[(-5, -5), (15, -5), (15, 15), (-5, 15)],
         rule: Named::Intersect,
-        part: &[(0, 0), (10, 0), (10, 10), (0, 10)],
+        part: &[(0, 10), (0, 0), (10, 0), (10, 10)],
     },
     Row {
         name: "the tile lies in both, what is in one alone",
@@ -82,7 +84,7 @@ static ROWS: [Row; 9] = [
         subject: &[(4, 0), (10, 0), (10, 10), (4, 10)],
         clip: &[],
         rule: Named::Union,
-        part: &[(4, 0), (10, 0), (10, 10), (4, 10)],
+        part: &[(4, 10), (4, 0), (10, 0), (10, 10)],
     },
     Row {
         name: "an edge along the border, outside",
@@ -96,14 +98,14 @@ static ROWS: [Row; 9] = [
         subject: &[(0, 0), (5, 0), (5, 5)],
         clip: &[(0, 0), (5, 0), (0, 5)],
         rule: Named::Intersect,
-        part: &[(0, 0), (5, 0), (3, 3)],
+        part: &[(3, 3), (0, 0), (5, 0)],
     },
     Row {
         name: "an edge that is cut at (0, 2.5), which is rounded upward",
         subject: &[(-5, 0), (5, 5), (-5, 5)],
         clip: &[],
         rule: Named::Subject,
-        part: &[(0, 3), (5, 5), (0, 5)],
+        part: &[(0, 5), (0, 3), (5, 5)],
     },
 ];
 
@@ -172,8 +174,8 @@ fn two_tiles_share_a_rectangle(rt: HostRuntime) -> Result<(), Fail> {
     };
     let left = part(rt.alloc(), 0, 10, &row)?;
     let right = part(rt.alloc(), 10, 20, &row)?;
-    let left_half = contours_from(rt.alloc(), &[(5, 2), (10, 2), (10, 8), (5, 8)])?;
-    let right_half = contours_from(rt.alloc(), &[(10, 2), (15, 2), (15, 8), (10, 8)])?;
+    let left_half = contours_from(rt.alloc(), &[(5, 8), (5, 2), (10, 2), (10, 8)])?;
+    let right_half = contours_from(rt.alloc(), &[(10, 8), (10, 2), (15, 2), (15, 8)])?;
     assert!(rt; left.len() == 1 && right.len() == 1);
     assert!(rt; left[0].as_slice() == left_half[0].as_slice());
     assert!(rt; right[0].as_slice() == right_half[0].as_slice());
