@@ -52,7 +52,7 @@ PLANTS = [
     Plant("a boundary counts as inside", C, "(fadrinzo_location)code;", "(fadrinzo_location)(code == 1 ? 0 : code);"),
     Plant("a relation is that of another code", C, "&settings, (uint8_t)relation, &found);", "&settings, (uint8_t)(relation == 2 ? 1 : relation), &found);"),
     Plant("a refused relation is written", C, "    if (status == FADRINZO_OK)\n        *holds = found;", "    *holds = found;"),
-    Plant("a relation without a name is taken", C, "relation <= FADRINZO_SAME_REGION", "relation <= FADRINZO_SAME_REGION + 1"),
+    Plant("a relation without a name is taken", C, "relation <= FADRINZO_DISJOINT", "relation <= FADRINZO_DISJOINT + 1"),
     Plant("covers and within are exchanged", PYTHON, '"covers": 1, "is-within": 2', '"covers": 2, "is-within": 1'),
     Plant("a shape that crosses itself is no error of its own", PYTHON, "NOT_EXACT = (6, 7)", "NOT_EXACT = ()"),
     Plant("scaled coordinates are floored", PYTHON, "return round(scaled) if", "return int(scaled // 1) if"),
