@@ -229,7 +229,7 @@ fn lies_above<I: OverlayInt>(contour: &[IntPoint<I>], y: I) -> bool
 }
 
 /// Whether one number is at most another.
-fn is_up_to<I: OverlayInt>(u: I, v: I) -> bool
+pub(crate) fn is_up_to<I: OverlayInt>(u: I, v: I) -> bool
     ensures { result ≡ int_le (I.whole u) (I.whole v) }
 {
     u <= v

@@ -5,3 +5,4 @@ pub mod clip;
 pub(crate) mod line;
 pub mod overlay;
 pub mod tile;
+pub mod tiled;

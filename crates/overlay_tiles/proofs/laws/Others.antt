@@ -44,7 +44,7 @@ contour_round p P f (q ∷ points) h =
     nothing : (z : ℤ) → z -ℤ z ≡ pos 0
     nothing z = omega (arith, ints)
 
-all_none : (p : RationalPoint) (Q : List Point → Type 0) → ((c : List Point) → Q c → Nothing p c) → (contours : List (List Point)) → AllByRecursion Q contours → gathered ◌+ℤ◌ (pos 0) (step_winding p) (steps contours) ≡ pos 0
+pub all_none : (p : RationalPoint) (Q : List Point → Type 0) → ((c : List Point) → Q c → Nothing p c) → (contours : List (List Point)) → AllByRecursion Q contours → gathered ◌+ℤ◌ (pos 0) (step_winding p) (steps contours) ≡ pos 0
 all_none p Q f [] h = refl
 all_none p Q f (c ∷ contours) h = gathered-append whole_numbers_add (step_winding p) (steps_of c) (steps contours) ∙ ap₂ ◌+ℤ◌ (f c h.0) (all_none p Q f contours h.1)
 
@@ -84,7 +84,7 @@ module _ (m : ℤ) (p : RationalPoint) (c : List Point) where
       (λ u v h k. counts_change (record { a = u; b = v }) p (below_level m (record { a = u; b = v }) p h k at) (below_level m (record { a = v; b = u }) p k h at)) c all
 
 -- what holds of all points of contours in a tile
-of_all : (other : Rect) (P : Point → Type 0) → ((q : Point) → LiesInTile other q → P q) → (c : List Point) → All (LiesInTile other) c → AllByRecursion P c
+pub of_all : (other : Rect) (P : Point → Type 0) → ((q : Point) → LiesInTile other q → P q) → (c : List Point) → All (LiesInTile other) c → AllByRecursion P c
 of_all other P f c l = AllByRecursion-weaker (LiesInTile other) P f c (recursion_from_All (LiesInTile other) c l)
 
 pub others_count_nothing : OthersCountNothing
