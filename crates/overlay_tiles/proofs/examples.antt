@@ -1,2 +1,3 @@
 pub mod Computing
 pub mod Tiles
+pub mod Tilings

@@ -5,7 +5,8 @@ ghost use Rattle.overlay_contours.specs.ContoursOf.{contours_of};
 ghost use Rattle.overlay_contours.specs.ContoursIn.{LieInRange};
 ghost use Rattle.overlay_tiles.specs.TileOf.{tile_of};
 ghost use Rattle.overlay_tiles.specs.TileOverlays.{IsTilePart};
-ghost use Rattle.overlay_tiles.specs.TiledOverlays.{tiles_of, is_apart, AreApartInPairs, Meet, MeetsAt, AreParts, IsTiledOverlay, IsSomeRefusal, IsTilingRefusal};
+ghost use Rattle.overlay_tiles.specs.TiledOverlays.{tiles_of, is_apart, AreApartInPairs, Meet, MeetsAt};
+ghost use Rattle.overlay_tiles.specs.TiledOverlays.{AreParts, IsTiledOverlay, IsSomeRefusal, IsTilingRefusal};
 ghost use Rattle.overlay_tiles.specs.Tiles.{AreApart};
 
 use crate::clip::is_up_to;
