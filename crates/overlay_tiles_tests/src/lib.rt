@@ -7,3 +7,5 @@ mod clip;
 mod overlay;
 #[cfg(test)]
 mod tile;
+#[cfg(test)]
+mod tiled;
