@@ -29,6 +29,7 @@ use overlay_relations::predicates::{covers, interiors_meet};
 use overlay_relations::region::Region;
 use overlay_tiles::clip::clip_to_tile;
 use overlay_tiles::tile::Tile;
+use overlay_tiles::tiled::{TilingFault, overlay_by_tiles};
 use std::alloc::Global;
 
 /// An overlay by one splitter and one builder. A refusal leaves the list empty, or the arrangement.
@@ -345,6 +346,38 @@ fn region(low: i32, alloc: Global) -> Result<Region<i32>, Stop> {
     }
 }
 
+/// What two squares share, by two tiles.
+#[derive(Drop)]
+pub struct Tiled {}
+
+impl Case for Tiled {
+    fn try_once(&mut self, alloc: Global) -> Result<Summary, Stop> {
+        let subject = vec![in alloc; square(0, alloc)?]?;
+        let clip = vec![in alloc; square(2, alloc)?]?;
+        let tiles = vec![in alloc; tile(1, 3)?, tile(3, 9)?]?;
+        let (solver, fill) = (&Solver::AUTO, FillRule::NonZero);
+        let rule = OverlayRule::Intersect;
+        match overlay_by_tiles(alloc, &tiles, &subject, &clip, solver, fill, rule) {
+            Ok(contours) => Ok(summary_of_contours(&contours)),
+            Err(TilingFault::Refused(fault)) => Err(contour_stop(fault)),
+            Err(TilingFault::NotApart { .. }) => Err(Stop::Wrong("two tiles are not apart")),
+        }
+    }
+}
+
+/// A tile between two numbers in `x`, and from 2 to 9 in `y`.
+fn tile(min_x: i32, max_x: i32) -> Result<Tile<i32>, Stop> {
+    let rect = IntRect {
+        min_x,
+        max_x,
+        min_y: 2,
+        max_y: 9,
+    };
+    Tile::new(rect)
+        .ok()
+        .ok_or(Stop::Wrong("a rectangle is no tile"))
+}
+
 /// A square clipped to a tile that has a corner of it.
 #[derive(Drop)]
 pub struct Clipped {}
@@ -352,15 +385,9 @@ pub struct Clipped {}
 impl Case for Clipped {
     fn try_once(&mut self, alloc: Global) -> Result<Summary, Stop> {
         let contours = vec![in alloc; square(0, alloc)?]?;
-        let rect = IntRect {
-            min_x: 1,
-            max_x: 9,
-            min_y: 2,
-            max_y: 9,
-        };
-        match (Tile::new(rect), find_out_of_range(&contours)) {
-            (Ok(tile), None) => Ok(summary_of_contours(&clip_to_tile(alloc, &tile, &contours)?)),
-            _ => Err(Stop::Wrong("a rectangle is no tile")),
+        match find_out_of_range(&contours) {
+            None => Ok(summary_of_contours(&clip_to_tile(alloc, &tile(1, 9)?, &contours)?)),
+            Some(_) => Err(Stop::Wrong("a point is out of range")),
         }
     }
 }
