@@ -26,13 +26,17 @@ fn tile(min_x: i32, max_x: i32) -> Result<Tile<i32>, Fail> {
     Ok(Tile::new(rect).ok().ok_or("no tile")?)
 }
 
-/// A list of a contour of code.
-fn contours_from(alloc: Global, corners: Corners) -> Result<Vec<IntContour<i32>>, AllocError> {
-    let contour = corners
+/// The contour with the given corners.
+fn contour_from(alloc: Global, corners: Corners) -> Result<IntContour<i32>, AllocError> {
+    corners
         .iter()
         .map(|(x, y)| IntPoint::new(*x, *y))
-        .collect(alloc)?;
-    Ok(vec![in alloc; contour]?)
+        .collect(alloc)
+}
+
+/// A list of one contour.
+fn contours_from(alloc: Global, corners: Corners) -> Result<Vec<IntContour<i32>>, AllocError> {
+    Ok(vec![in alloc; contour_from(alloc, corners)?]?)
 }
 
 /// The overlay of two contours by tiles, under a rule.
@@ -76,9 +80,9 @@ fn parts_of_three_tiles(rt: HostRuntime) -> Result<(), Fail> {
     let contours = found.ok().ok_or("refused")?;
     assert!(rt; contours.len() == 4);
     for (index, corners) in wanted.iter().enumerate() {
-        let part = contours_from(rt.alloc(), *corners)?;
+        let part = contour_from(rt.alloc(), *corners)?;
         let contour = contours.get(index).ok_or("no contour")?;
-        assert!(rt; contour.as_slice() == part[0].as_slice(), "{}", index);
+        assert!(rt; contour.as_slice() == part.as_slice(), "{}", index);
     }
     Ok(())
 }
@@ -94,9 +98,9 @@ fn a_tile_between_two_that_are_not_given(rt: HostRuntime) -> Result<(), Fail> {
         OverlayRule::Union,
     )?;
     let contours = found.ok().ok_or("refused")?;
-    let wanted = contours_from(rt.alloc(), &[(10, 8), (10, 2), (20, 2), (20, 8)])?;
+    let wanted = contour_from(rt.alloc(), &[(10, 8), (10, 2), (20, 2), (20, 8)])?;
     assert!(rt; contours.len() == 1);
-    assert!(rt; contours[0].as_slice() == wanted[0].as_slice());
+    assert!(rt; contours[0].as_slice() == wanted.as_slice());
     let none = overlay(
         rt.alloc(),
         &[],
