@@ -20,12 +20,12 @@ use Rattle.overlay_base.specs.declared.overlay_core.overlay_rule.OverlayRule.{Ov
 use Rattle.overlay_base.specs.declared.segm.fault.Fault.{Fault}
 use Rattle.overlay_base.specs.declared.segm.fault.Fault.TheVariants.{CountOutOfRange}
 use Rattle.overlay_base.proofs.laws.joins.DataJoins.{bare}
-use Rattle.overlay_split.specs.DataPass.{data_after_passes, IsDataAfter}
-use Rattle.overlay_split.specs.Laws.{HooksKeep, HooksNameNoOther, NameNear}
-use Rattle.overlay_split.specs.Nearness.{LiesNear, reach_of_run}
-use Rattle.overlay_split.specs.Run.{Settings, after_passes}
+use Rattle.overlay_cuts.specs.DataPass.{data_after_passes, IsDataAfter}
+use Rattle.overlay_cuts.specs.Laws.{HooksKeep, HooksNameNoOther, NameNear}
+use Rattle.overlay_cuts.specs.Nearness.{LiesNear, reach_of_run}
+use Rattle.overlay_cuts.specs.Run.{Settings, after_passes}
 use Rattle.overlay_split.specs.SettingsOf.{passes_of}
-use Rattle.overlay_split.proofs.laws.passes.DataPasses.{data_is_beside}
+use Rattle.overlay_cuts.proofs.laws.passes.DataPasses.{data_is_beside}
 use Rattle.overlay_build.specs.Graph.{Graph, data_by}
 use Rattle.overlay_build.specs.GraphOf.{link_of}
 use Rattle.i_overlay.specs.Headline.{IsSplit, IsOverlay, IsRefused, LinksNameNear}

@@ -11,10 +11,10 @@ use Rattle.overlay_base.specs.SegmentOf.{segments_of}
 use Rattle.overlay_base.specs.declared.overlay_core.clip_rule.ClipRule.{ClipRule}
 use Rattle.overlay_base.specs.declared.overlay_core.overlay_rule.OverlayRule.{OverlayRule}
 use Rattle.overlay_base.specs.declared.segm.fault.Fault.TheVariants.{Memory, CountOutOfRange}
-use Rattle.overlay_split.specs.DataPass.{data_after_passes}
-use Rattle.overlay_split.specs.Laws.{NameNear}
-use Rattle.overlay_split.specs.Nearness.{LiesNear, reach_of_run}
-use Rattle.overlay_split.specs.Run.{Settings, IsRun}
+use Rattle.overlay_cuts.specs.DataPass.{data_after_passes}
+use Rattle.overlay_cuts.specs.Laws.{NameNear}
+use Rattle.overlay_cuts.specs.Nearness.{LiesNear, reach_of_run}
+use Rattle.overlay_cuts.specs.Run.{Settings, IsRun}
 use Rattle.overlay_split.specs.SettingsOf.{passes_of, snap_limit_of}
 use Rattle.overlay_sweep.specs.ChainWindings.{tops_leave_range}
 use Rattle.overlay_build.specs.Graph.{Link, Graph, graph_by, data_by, has_even_nodes}

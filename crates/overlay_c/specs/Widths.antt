@@ -7,7 +7,7 @@ use Rattle.overlay_base.specs.Segments.{WholeSegment}
 use Rattle.overlay_base.specs.SegmentOf.{segments_of}
 use Rattle.overlay_base.specs.declared.overlay_core.clip_rule.ClipRule.{ClipRule}
 use Rattle.overlay_base.specs.declared.overlay_core.overlay_rule.OverlayRule.{OverlayRule}
-use Rattle.overlay_split.specs.Run.{LeavesRange}
+use Rattle.overlay_cuts.specs.Run.{LeavesRange}
 use Rattle.overlay_split.specs.SettingsOf.{snap_limit_of}
 use Rattle.overlay_sweep.specs.ChainWindings.{tops_leave_range}
 use Rattle.overlay_build.specs.Graph.{Link}

@@ -72,7 +72,7 @@ pub struct Core<I: Width> {
 impl<I: Width> Core<I> {
     ghost use Rattle.overlay_base.specs.ArrangedOf.{IsArranged};
     ghost use Rattle.overlay_base.specs.Join.{join, join_leaves_range, has_equal_pairs};
-    ghost use Rattle.overlay_split.specs.Run.{LeavesRange};
+    ghost use Rattle.overlay_cuts.specs.Run.{LeavesRange};
     ghost use Rattle.overlay_split.specs.SettingsOf.{snap_limit_of};
     ghost use Rattle.overlay_c.specs.Tags.{untagged, tagged_by};
     ghost use Rattle.overlay_c.specs.Kept.{engine_settings, TellsSizes, KeepsData, KeepsSplit, BuildsAll, KeepsOverlay, KeepsClip, HasNoWalks, HasNoGraph, IsCountRefused, IsBuildRefusal, IsCountOfLinesRefused, StandsAfter, LinesStandAfter};
