@@ -1,4 +1,4 @@
--- Laws over the definitions, each a statement that is proved once and named by a contract.
+-- Laws of cuts, each a statement that is proved once and named by a contract, here or above.
 use Rattle.std.specs.Prelude.{◌≡◌, ◌≢◌, ◌<◌, ◌≤◌, ℕ, ◌*◌, ℤ, ◌-ℤ◌, ◌||◌, IsTrue, ◌+◌, ◌-◌, neg_ℤ, Bool, IsFalse, List, [], All, Contains, ◌^◌, ◌/◌}
 use Rattle.std.specs.List.{list_all}
 use Rattle.overlay_geometry.specs.Points.{Point, Pair, is_vertical, is_horizontal, is_in_box, is_within_box_of}

@@ -1,4 +1,4 @@
--- Every point of a segment lies near one of its pieces, and so near the result of a run, where counts do not cancel.
+-- Every point of a segment lies near one of its pieces, and a pair of the pieces is left by their join, or cancels.
 use Rattle.std.proofs.Common.{◌≡◌, ◌⊎◌, inl, inr, refl, sym, ap, subst, ◌∙◌, arith, ℕ, zero, suc, ◌+◌, ◌*◌, ◌-◌, ◌<◌, ◌≤◌, List, [], ◌∷◌}
 use Rattle.std.specs.Prelude.{ℤ, pos, ◌+ℤ◌, ◌-ℤ◌, ◌*ℤ◌, unsigned_abs, IsTrue, Contains, take, drop, flat_map}
 use Rattle.std.specs.List.{AllByRecursion}

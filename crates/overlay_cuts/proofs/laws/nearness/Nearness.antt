@@ -1,4 +1,4 @@
--- Every pair of a pass lies near one of the pairs before it, and every pair of a run near one of those given.
+-- Every piece lies near the segment that was cut.
 use Rattle.std.proofs.Common.{ℕ, zero, suc, ◌-◌, List}
 use Rattle.std.specs.Prelude.{Contains}
 use Rattle.std.specs.List.{AllByRecursion}

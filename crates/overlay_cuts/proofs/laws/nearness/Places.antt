@@ -1,4 +1,4 @@
--- A run changes no winding at a place that is farther from the given segments than it reaches.
+-- A cut changes no winding at a place that is farther from the segments than its marks lie from them.
 use Rattle.std.proofs.Common.{◌≡◌, ◌⊎◌, inl, inr, refl, sym, ap, ap₂, ◌∙◌, arith, ℕ, zero, suc, ◌+◌, Bool, true, false, List, [], ◌∷◌}
 use Rattle.std.specs.Prelude.{◌≤◌, ℤ, pos, ◌+ℤ◌, ◌-ℤ◌, ◌*ℤ◌, neg_ℤ, ◌≤ℤ◌, ◌<ℤ◌, int_le, int_lt, cond, ◌&&◌, IsTrue}
 use Rattle.std.specs.List.{AllByRecursion}
@@ -62,9 +62,14 @@ join_keeps_winding bag p = total_weight-filter_join (λ s. lies_below s p) bag
 
 -- ---- sums with each term known
 
-pub gathered-each : {X M : Type 0} (op : M → M → M) (unit : M) (f g : X → M) (xs : List X) → AllByRecursion (λ x. f x ≡ g x) xs → gathered op unit f xs ≡ gathered op unit g xs
+gathered-each : {X M : Type 0} (op : M → M → M) (unit : M) (f g : X → M) (xs : List X) → AllByRecursion (λ x. f x ≡ g x) xs → gathered op unit f xs ≡ gathered op unit g xs
 gathered-each op unit f g [] h = refl
 gathered-each op unit f g (x ∷ xs) h = ap₂ op h.0 (gathered-each op unit f g xs h.1)
+
+weighed-each : (f g : Pair → ℤ) (part : Winding → ℤ) (segments : List WholeSegment) → AllByRecursion (λ s. f s.pair ≡ g s.pair) segments → weighed f part segments ≡ weighed g part segments
+weighed-each f g part segments h =
+    gathered-each ◌+ℤ◌ (pos 0) (λ s. f s.pair *ℤ part s.count) (λ s. g s.pair *ℤ part s.count) segments
+    (AllByRecursion-weaker (λ s. f s.pair ≡ g s.pair) (λ s. f s.pair *ℤ part s.count ≡ g s.pair *ℤ part s.count) (λ s e. ap (λ (z : ℤ). z *ℤ part s.count) e) segments h)
 
 weighed-none : (part : Winding → ℤ) (segments : List WholeSegment) → weighed (λ _. pos 0) part segments ≡ pos 0
 weighed-none part [] = refl

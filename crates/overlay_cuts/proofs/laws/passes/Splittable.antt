@@ -1,4 +1,4 @@
--- Joins, passes and runs keep what may be split: the ends stay in range, and the counts valid where no sum leaves the range.
+-- Joins and cuts keep what may be split: the ends stay in range, and the counts valid where no sum leaves the range.
 use Rattle.std.proofs.Common.{◌≡◌, arith, ℕ, List, true, ◌&&◌, IsTrue, IsFalse}
 use Rattle.std.specs.Prelude.{ℤ, nat_lt}
 use Rattle.std.specs.List.{AllByRecursion}

@@ -1,4 +1,4 @@
--- A pass changes no balance.
+-- A cut changes no balance.
 use Rattle.std.proofs.Common.{◌≡◌, refl, sym, ap, ap₂, ◌∙◌, List}
 use Rattle.std.specs.Prelude.{ℕ, zero, suc, ℤ, pos, ◌*ℤ◌, cond, bit_or}
 use Rattle.overlay_geometry.specs.Points.{Point, Pair, point_eq}

@@ -1,4 +1,4 @@
--- The path through rounded points of a pair runs one way in x and one way in y, so the lengths of its steps sum to that of the pair.
+-- The path through rounded points of a pair runs one way in x and one way in y.
 use Rattle.std.proofs.Common.{◌≡◌, ◌⊎◌, inl, inr, refl, sym, subst, ◌∙◌, arith, ℕ, zero, suc, ◌+◌, ◌<◌, List, [], ◌∷◌, ◌++◌, append_assoc}
 use Rattle.std.specs.Prelude.{ℤ, pos, ◌+ℤ◌, ◌-ℤ◌, ◌*ℤ◌, ◌≤ℤ◌, ◌<ℤ◌, neg_ℤ, int_lt, IsTrue, IsFalse, reverse}
 use Rattle.std.proofs.lemmas.Int.{ints, by_lt_z}

@@ -1,4 +1,4 @@
--- On exact input one pass is made, its pieces lie on the given segments between special points, and each elementary pair keeps its count.
+-- On exact input the pieces lie on the given segments between special points, and each elementary pair keeps its count.
 use Rattle.std.proofs.Common.{◌≡◌, refl, sym, ap, ap₂, ◌∙◌, ◌⊎◌, ⊎_elim, inl, inr, subst, true, false, Bool, IsTrue, IsFalse, ◌&&◌, cond, List, [], ◌∷◌, ◌++◌, map, filter, ℕ, zero, suc}
 use Rattle.std.specs.Prelude.{flat_map, pos}
 use Rattle.std.specs.List.{list_any, AllByRecursion}

@@ -1,4 +1,4 @@
--- Every point of a segment lies near one of its pieces, and so near the result of a run, where counts do not cancel.
+-- Every point of a given segment lies near the result of a run, where counts do not cancel.
 use Rattle.std.proofs.Common.{◌≡◌, ◌⊎◌, inl, inr, refl, subst, arith, ℕ, zero, suc, ◌-◌, List}
 use Rattle.std.specs.Prelude.{IsTrue, Contains}
 use Rattle.overlay_geometry.specs.Points.{Pair}

@@ -24,17 +24,10 @@ use Rattle.overlay_cuts.proofs.laws.nearness.Distances.{IsNear-weaker, IsNear-fr
 use Rattle.overlay_cuts.proofs.laws.nearness.NearMarks.{marks_of_pass_are_near}
 use Rattle.overlay_split.proofs.laws.nearness.Nearness.{run_lies_near, exact_input_reaches_nothing}
 use Rattle.overlay_cuts.proofs.laws.nearness.OneSide.{one_side}
-use Rattle.overlay_cuts.proofs.laws.nearness.Places.{IsApartFrom, far_from, gathered-each, join_keeps_winding, pass_by_winds}
+use Rattle.overlay_cuts.proofs.laws.nearness.Places.{IsApartFrom, far_from, join_keeps_winding, pass_by_winds}
 
 pub pass_on_one_side : PassOnOneSide
 pass_on_one_side h p s r t far near_r near_t below met = and_from (spans t p) (runs_below t p) met (one_side h p s r t far near_r near_t below met)
-
--- ---- sums with each term known
-
-weighed-each : (f g : Pair → ℤ) (part : Winding → ℤ) (segments : List WholeSegment) → AllByRecursion (λ s. f s.pair ≡ g s.pair) segments → weighed f part segments ≡ weighed g part segments
-weighed-each f g part segments h =
-    gathered-each ◌+ℤ◌ (pos 0) (λ s. f s.pair *ℤ part s.count) (λ s. g s.pair *ℤ part s.count) segments
-    (AllByRecursion-weaker (λ s. f s.pair ≡ g s.pair) (λ s. f s.pair *ℤ part s.count ≡ g s.pair *ℤ part s.count) (λ s e. ap (λ (z : ℤ). z *ℤ part s.count) e) segments h)
 
 -- ---- counts that do not wind
 

@@ -1,4 +1,4 @@
--- Joins, passes and runs keep what may be split: the ends stay in range, and the counts valid where no sum leaves the range.
+-- A pass keeps what may be split.
 use Rattle.std.proofs.Common.{◌≤◌, arith, ℕ, List, IsTrue, IsFalse}
 use Rattle.std.specs.Prelude.{ℤ}
 use Rattle.std.specs.List.{AllByRecursion}

@@ -1,4 +1,4 @@
--- A pass changes no balance.
+-- A pass changes no balance, and a run changes none.
 use Rattle.std.proofs.Common.{◌≡◌, ap, ◌∙◌, List}
 use Rattle.std.specs.Prelude.{ℕ, zero, suc}
 use Rattle.overlay_geometry.specs.Points.{Point}

@@ -1,4 +1,4 @@
--- The path through rounded points of a pair runs one way in x and one way in y, so the lengths of its steps sum to that of the pair.
+-- The lengths of the steps of a path that runs one way sum to that of its pair.
 use Rattle.std.proofs.Common.{◌≡◌, refl, sym, ap, ◌∙◌, arith, ℕ, zero, suc, ◌+◌, ◌<◌, List, [], ◌∷◌, length}
 use Rattle.std.specs.Prelude.{ℤ, pos, negsuc, ◌-ℤ◌, ◌≤ℤ◌, ◌<ℤ◌, neg_ℤ, unsigned_abs}
 use Rattle.std.proofs.lemmas.Int.{ints, by_lt_z}

@@ -1,4 +1,4 @@
--- The telescoping sum over the pieces of a path.
+-- The law of the telescoping sum over the pieces of a path.
 use Rattle.std.proofs.Common.{refl}
 use Rattle.overlay_split.specs.Laws.{NumbersAreOdd, PiecesTelescope}
 use Rattle.overlay_cuts.proofs.laws.paths.Pieces.{weighed-pieces}

@@ -1,4 +1,4 @@
--- The result of exact input, given without passes: the pieces are the elementary pairs of the join.
+-- Exact input has one answer, whatever the settings.
 use Rattle.std.proofs.Common.{sym, ap, ◌∙◌, subst, cond}
 use Rattle.overlay_base.specs.Windings.{empty}
 use Rattle.overlay_base.specs.Join.{join}

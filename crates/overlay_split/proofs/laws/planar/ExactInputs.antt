@@ -1,4 +1,4 @@
--- On exact input one pass is made, its pieces lie on the given segments between special points, and each elementary pair keeps its count.
+-- On exact input one pass is made.
 use Rattle.std.proofs.Common.{◌≡◌, sym, ap, ◌∙◌, inl, inr, subst, arith, false, IsTrue, IsFalse, List, [], ◌∷◌, ℕ, zero, suc, ◌<◌, length, nat_le}
 use Rattle.std.proofs.lemmas.Bool.{and_parts, both_ways, leb-false}
 use Rattle.overlay_geometry.specs.Points.{Pair}
