@@ -1,4 +1,4 @@
--- Exact input has one answer, whatever the settings.
+-- Exact input has one result, whatever the settings.
 use Rattle.std.proofs.Common.{sym, ap, ◌∙◌, subst, cond}
 use Rattle.overlay_base.specs.Windings.{empty}
 use Rattle.overlay_base.specs.Join.{join}
