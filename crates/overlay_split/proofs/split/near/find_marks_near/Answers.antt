@@ -4,6 +4,7 @@ use Rattle.std.proofs.lemmas.Bool.{both_ways}
 use Rattle.std.specs.Prelude.{IfSome, Some}
 use Rattle.overlay_base.specs.Choices.{list_splits}
 use Rattle.overlay_base.specs.contracts.overlay_core.solver.Strategy.{the_type}
+use Rattle.overlay_base.specs.declared.overlay_core.solver.Solver.{Solver}
 use Rattle.overlay_base.specs.declared.overlay_core.solver.Strategy.TheVariants.{List as ByList}
 use Rattle.overlay_base.specs.SegmentOf.{ends_of, segments_of, pairs_in}
 use Rattle.overlay_intersections.specs.MarkOf.{marks_of, AreMarks}
@@ -96,6 +97,6 @@ returns-clause-looked g c =
     let same : c.as_slice-near.result.now ≡ filter (λ s. is_near rects (ends_of s)) xs = c.as_slice-near.ensures.value ∙ items in
     let grid = layout_in c.args.finder.now in
     let strategy = (solver_in c.args.finder.now).strategy in
-    let asked : c.is_list_split-is_list.result ≡ list_splits strategy (length (pairs_in xs)) = c.is_list_split-is_list.ensures ∙ ap (list_splits strategy) (sym (length-pairs xs)) in
-    let other : strategy ≡ ByList → ⊥ = λ h. both_ways false refl (subst (λ s. false ≡ sameb the_type s ByList) h c.if-eq.ensures) in
+    let asked : c.is_list_split-is_list.result ≡ list_splits strategy (length (pairs_in xs)) = c.is_list_split-is_list.ensures ∙ ap (λ (s : Solver). list_splits s.strategy (length xs)) c.solver-solver.ensures ∙ ap (list_splits strategy) (sym (length-pairs xs)) in
+    let other : strategy ≡ ByList → ⊥ = λ h. both_ways false refl (subst (λ s. false ≡ sameb the_type s ByList) (ap (λ (s : Solver). s.strategy) c.solver-solver.ensures ∙ h) c.if-eq.ensures) in
     ArePassLooks-fewer strategy grid (pairs_in xs) (pairs_in c.as_slice-near.result.now) (looks_in c.args.finder.now) (looks_in c.find_as_chosen.new.self) c.is_list_split-is_list.result asked other (found_listed rects xs c.as_slice-near.result.now same) (found_looks rects xs c.as_slice-near.result.now same grid) c.in_ok-rounded.ensures.listed c.in_ok-rounded.ensures.wide
