@@ -8,4 +8,5 @@ pub mod Resolved
 pub mod LineWalks
 pub mod Cells
 pub mod Met
+pub mod InOrder
 pub mod Recorded

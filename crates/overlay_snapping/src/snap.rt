@@ -7,6 +7,7 @@ mod collinear;
 pub mod cut_finder;
 pub mod laws;
 mod meetings;
+mod ordered_points;
 pub mod pixel;
 pub mod point_finder;
 mod point_grid;

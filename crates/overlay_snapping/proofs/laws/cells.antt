@@ -8,3 +8,4 @@ pub mod Listed
 pub mod Users
 pub mod Pushed
 pub mod Recorded
+pub mod InOrder

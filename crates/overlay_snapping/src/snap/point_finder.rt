@@ -1,5 +1,5 @@
-// The points of a set whose pixels a segment meets, found in a grid. Where it is crowded or the segment long, all points are
-// tested, and after some such searches a tree is filled. This project's own.
+// The points of a set whose pixels a segment meets, found in a grid. Where it is crowded or the segment long, the points are
+// tested one by one, and after some such searches that find few a tree is filled. This project's own.
 ghost use Rattle.std.specs.Prelude.{◌≡◌, ◌↔◌, [], true, map, length, Contains, OnOk, IsTrue};
 ghost use Rattle.std.specs.List.{list_all};
 ghost use Rattle.overlay_geometry.specs.Points.{Point, is_ordered};
@@ -26,7 +26,7 @@ pub struct PointFinder<I: OverlayInt> {
     tree: PointTree<I>,
     /// Whether the tree has the points of the grid.
     has_tree: bool,
-    /// How many searches may test all points one by one before the tree is filled.
+    /// How many searches that find few may test points one by one before the tree is filled.
     scans: u32,
     /// The places in the tree that were found last.
     places: Vec<usize>,
@@ -40,8 +40,14 @@ const FEW_POINTS: usize = 8;
 /// The most cells that a search looks into.
 const MOST_CELLS: u64 = 256;
 
-/// The most searches that test all points one by one: they take less time than the tree takes to be filled.
+/// The most searches that find few and test points one by one: they take less time than the tree takes to be filled.
 const MOST_SCANS: u32 = 4;
+
+/// The most points that are tested in order without the tree, which takes more time for so few.
+const FEW_FOR_TREE: usize = 1024;
+
+/// A search finds few where it finds less than one of so many points: the tree takes less time then.
+const FEW_OF: usize = 512;
 
 impl<I: OverlayInt> PointFinder<I> {
     ghost use Rattle.overlay_snapping.specs.PointFinderOf.{points_of, points_in};
@@ -98,8 +104,11 @@ impl<I: OverlayInt> PointFinder<I> {
         if self.grid.points().len() <= FEW_POINTS {
             return self.grid.append_each_met(segment, met);
         }
+        if self.grid.is_crowded() {
+            return self.append_met_of_list(segment, met);
+        }
         let cells = CellBox::around(segment, self.grid.size());
-        if !self.grid.is_crowded() && cells.has_at_most(MOST_CELLS) {
+        if cells.has_at_most(MOST_CELLS) {
             return self.grid.append_met(segment, &cells, met);
         }
         if self.may_scan() {
@@ -108,9 +117,34 @@ impl<I: OverlayInt> PointFinder<I> {
         self.append_met_by_tree(segment, met)
     }
 
+    /// As `append_met`, where the grid is crowded and its points are a list in order.
+    fn append_met_of_list(
+        &mut self,
+        segment: &XSegment<I>,
+        met: &mut Vec<IntPoint<I>>,
+    ) -> Result<(), AllocError>
+        requires crowded { self.old.grid.is_crowded ≡ true }
+        requires in_range { IsPairInRange I.whole I.MIN_COORD I.MAX_COORD segment.now }
+        requires ordered { IsTrue (is_ordered (pair_of I.whole segment.now)) }
+        ensures met { OnOk result (AddsAllMet (pair_of I.whole segment.now) (points_in self.old)
+            (map (point_of I.whole) met.old.items) (map (point_of I.whole) met.new.items)) }
+        ensures same { points_of self.new ≡ points_of self.old }
+    {
+        let all = self.most();
+        if all > FEW_FOR_TREE && !self.may_scan() {
+            return self.append_met_by_tree(segment, met);
+        }
+        let before = met.len();
+        self.grid.append_met_in_order(segment, met)?;
+        if all / FEW_OF < met.len().saturating_sub(before) {
+            self.scans = MOST_SCANS;
+        }
+        Ok(())
+    }
+
     /// Whether the tree is not filled and need not be yet, so that a search may test all points. It counts as one then.
     fn may_scan(&mut self) -> bool
-        ensures { points_of self.new ≡ points_of self.old }
+        ensures { self.new.grid ≡ self.old.grid }
     {
         if self.has_tree || self.scans == 0 {
             return false;

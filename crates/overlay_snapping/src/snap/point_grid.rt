@@ -9,8 +9,10 @@ ghost use Rattle.overlay_geometry.specs.InRange.{IsPointInRange, IsPairInRange};
 ghost use Rattle.overlay_snapping.specs.steps.PointTrees.{column_of};
 ghost use Rattle.overlay_snapping.specs.steps.Cells.{slot_of, slot_at, has_cell, is_among, AreChained};
 ghost use Rattle.overlay_snapping.specs.steps.Met.{is_met, AddsMet, AddsAllMet};
+ghost use Rattle.overlay_snapping.specs.steps.InOrder.{AreInOrder};
 
 use crate::snap::cells::{CellBox, CellSize};
+use crate::snap::ordered_points::{append_met_from, first_not_left, list_in_order};
 use crate::snap::pixel::{is_end, is_near_line};
 use overlay_geometry::geom::point::IntPoint;
 use overlay_geometry::geom::x_segment::XSegment;
@@ -21,7 +23,7 @@ use std::alloc::{AllocError, Global};
 ///
 /// Each cell has a slot, and cells share slots. The points of a slot are a chain: `heads` has the last place of each chain, and
 /// `nexts` the place before each, both plus one, and 0 where there is none. A grid is crowded where a chain is long: it is a
-/// plain list then.
+/// plain list in order then.
 #[derive(Drop)]
 pub(crate) struct PointGrid<I: OverlayInt> {
     pub(crate) points: Vec<IntPoint<I>>,
@@ -30,8 +32,11 @@ pub(crate) struct PointGrid<I: OverlayInt> {
     mask: usize,
     size: CellSize,
     is_crowded: bool,
+    /// Where the last search of a list in order began.
+    place: usize,
     ghost in_range: { list_all (is_point_in_range (I.whole I.MIN_COORD) (I.whole I.MAX_COORD))
         (map (point_of I.whole) points.items) ≡ true },
+    ghost in_order: { is_crowded ≡ true → AreInOrder I.whole points.items },
     ghost chained: { is_crowded ≡ false → AreChained mask size (map (point_of I.whole) points.items) heads.items nexts.items },
 }
 
@@ -45,6 +50,7 @@ impl<I: OverlayInt> PointGrid<I> {
     ghost use Rattle.overlay_snapping.specs.PointGridOf.{points_of, points_in};
 
     /// A grid without points.
+    #[tactic(auto, using(crate::proofs::laws::cells::InOrder::none_in_order))]
     pub(crate) fn new(alloc: Global) -> Self
         ensures { points_of result ≡ [] }
     {
@@ -58,6 +64,7 @@ impl<I: OverlayInt> PointGrid<I> {
                 height: 0,
             },
             is_crowded: true,
+            place: 0,
         }
     }
 
@@ -101,6 +108,7 @@ impl<I: OverlayInt> PointGrid<I> {
     }
 
     /// Drops all points, and makes room for so many.
+    #[tactic(auto, using(crate::proofs::laws::cells::InOrder::none_in_order))]
     fn clear(&mut self, count: usize, size: CellSize) -> Result<(), AllocError>
         ensures emptied { points_of self.new ≡ [] }
         ensures ready { OnOk result (self.new.is_crowded ≡ false) }
@@ -120,15 +128,20 @@ impl<I: OverlayInt> PointGrid<I> {
         Ok(())
     }
 
-    /// Takes points as a plain list, in place of those that the grid has.
-    fn list(&mut self, points: &[IntPoint<I>]) -> Result<(), AllocError>
+    /// Takes points as a plain list in order, in place of those that the grid has.
+    ///
+    /// The points have to be in range. Returns `AllocError` where a growth is refused; the grid has no points then.
+    pub(crate) fn list(&mut self, points: &[IntPoint<I>]) -> Result<(), AllocError>
         requires in_range { IsTrue (list_all (is_point_in_range (I.whole I.MIN_COORD) (I.whole I.MAX_COORD))
             (map (point_of I.whole) points.now)) }
-        ensures { OnOk result (points_of self.new ≡ points.now) }
+        ensures { OnOk result ((c : Point) → Contains (points_in self.new) c ↔ Contains (map (point_of I.whole) points.now) c) }
     {
         self.is_crowded = true;
-        self.points.clear();
-        self.points.extend_from_slice(points)
+        let listed = list_in_order(points, &mut self.points);
+        if listed.is_err() {
+            self.points.clear();
+        }
+        listed
     }
 
     /// Puts a point into its cell, if it is not there, and returns whether it is there. It is not where the chain is long.
@@ -292,6 +305,25 @@ impl<I: OverlayInt> PointGrid<I> {
         Ok(())
     }
 
+    /// As `append_met`, of a list in order: the points between the ends of the segment in `x` are tested.
+    ///
+    /// The grid has to be crowded. A search is fastest a little to the right of the last one.
+    pub(crate) fn append_met_in_order(
+        &mut self,
+        segment: &XSegment<I>,
+        met: &mut Vec<IntPoint<I>>,
+    ) -> Result<(), AllocError>
+        requires crowded { self.old.is_crowded ≡ true }
+        requires in_range { IsPairInRange I.whole I.MIN_COORD I.MAX_COORD segment.now }
+        requires ordered { IsTrue (is_ordered (pair_of I.whole segment.now)) }
+        ensures met { OnOk result (AddsAllMet (pair_of I.whole segment.now) (points_in self.old)
+            (map (point_of I.whole) met.old.items) (map (point_of I.whole) met.new.items)) }
+        ensures same { points_of self.new ≡ points_of self.old }
+    {
+        self.place = first_not_left(&self.points, self.place, segment.a.x);
+        append_met_from(&self.points, self.place, segment, met)
+    }
+
     /// As `append_met`, of all points, one by one.
     pub(crate) fn append_each_met(
         &self,
@@ -323,7 +355,7 @@ fn set(list: &mut Vec<u32>, place: usize, number: u32)
 
 /// Whether a segment meets the pixel of a point that is no end of it.
 #[inline(always)]
-fn is_met<I: OverlayInt>(segment: &XSegment<I>, point: IntPoint<I>) -> bool
+pub(crate) fn is_met<I: OverlayInt>(segment: &XSegment<I>, point: IntPoint<I>) -> bool
     requires in_range { IsPairInRange I.whole I.MIN_COORD I.MAX_COORD segment.now }
     requires ordered { IsTrue (is_ordered (pair_of I.whole segment.now)) }
     requires point { IsPointInRange I.whole I.MIN_COORD I.MAX_COORD point }

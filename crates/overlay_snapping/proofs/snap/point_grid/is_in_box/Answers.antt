@@ -1,4 +1,4 @@
-use Rattle.std.proofs.Common.{◌≡◌, ◌∙◌, sym, refl, true, false}
+use Rattle.std.proofs.Common.{◌≡◌, ◌∙◌, sym, true, false}
 use Rattle.overlay_geometry.specs.Points.{is_in_box, is_between}
 use Rattle.overlay_geometry.specs.PairOf.{pair_of}
 use Rattle.overlay_snapping.proofs.laws.cells.Boxes.{between_across}
