@@ -8,8 +8,8 @@ more, `-o out/checked`: the toolchain writes there what it proved, with sums of 
 command has that made by itself.
 `tools/archive.py --beside-ci` and `tools/dist.py` have the crates compiled by these records, and the toolchain refuses them where
 anything differs.
-The two lowest libraries get a job for each of half of the processors, since nothing else can be proved before them; the others
-try edits. Under a toolchain whose command has other steps this is plain `rt ci`, and the archive's crate is proved once more.
+The two lowest libraries get a job for each of half of the processors, since nothing else can be proved before them, and the last
+crates of the longest chain two jobs each; the other processors try edits. Under a toolchain whose command has other steps this is plain `rt ci`, and the archive's crate is proved once more.
 """
 import importlib.machinery
 import importlib.util
@@ -24,6 +24,7 @@ import run  # noqa: E402  (beside this file)
 RECORD = "out/checked"
 SHIPPED = ("overlay_c", "polygons")
 LOWEST = ("overlay_geometry", "overlay_base")
+LAST = ("overlay_contours", "overlay_c", "polygons")
 
 
 def command():
@@ -40,6 +41,13 @@ def has_steps(rt):
     """Whether the command has the two steps to which flags are added."""
     steps = [getattr(rt.Crate, name, None) for name in ("ci", "prove")]
     return all(steps) and [list(inspect.signature(it).parameters) for it in steps] == [["self", "flags", "tests"], ["self", "commands"]]
+
+
+def jobs_of(crate):
+    """How many jobs the check of a crate gets; of the others `rt` decides."""
+    if crate in LOWEST:
+        return max(run.processors() // 2, 1)
+    return min(run.processors(), 2) if crate in LAST else None
 
 
 def is_check(words):
@@ -61,8 +69,9 @@ def main():
         """A crate whose check, if its code is shipped as text, is recorded."""
 
         def ci(self, flags, tests):
-            if self.name in LOWEST and not tests:
-                flags = ["--jobs", str(max(run.processors() // 2, 1))]
+            jobs = jobs_of(self.name)
+            if jobs and not tests:
+                flags = ["--jobs", str(jobs)]
             return super().ci(flags, tests)
 
         def prove(self, *commands):

@@ -13,7 +13,7 @@ pub mod graph {
 /// Links of a graph, and which of them a rule keeps.
 pub mod link {
     pub use overlay_base::overlay_core::link::OverlayLink;
-    pub use overlay_build::build::link_filter::filter_by_overlay_into;
+    pub use overlay_upstream::build::link_filter::filter_by_overlay_into;
 }
 
 /// The engines' coordinates.

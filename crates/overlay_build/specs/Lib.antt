@@ -13,7 +13,6 @@ pub mod GraphOf
 pub mod OverlayGraphOf
 pub mod NodeIndexes
 pub mod BuilderOf
-pub mod VisitStates
 pub mod PointsInOrder
 pub mod StringGraphOf
 pub mod Walks

@@ -3,18 +3,15 @@
 
 pub mod boundary;
 pub mod builder;
-pub mod clip_filter;
 pub mod connect_links;
 pub mod directed_walks;
 mod end_parts;
 mod fills;
-pub mod filter;
 pub mod graph;
 pub mod graph_node;
 mod kept_links;
 pub mod laws;
 mod link_ends;
-pub mod link_filter;
 mod listed_nodes;
 pub mod numbered_link;
 pub mod string_graph;
@@ -22,6 +19,5 @@ pub mod util;
 pub mod walks;
 
 pub use overlay_sweep::build::{
-    boolean, fill_handler, fill_strategy, live_segments, scan_list, scan_row, scan_rows, scan_tree,
-    string, sweep,
+    boolean, fill_handler, fill_strategy, live_segments, scan_row, scan_rows, string, sweep,
 };

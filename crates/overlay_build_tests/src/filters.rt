@@ -1,8 +1,8 @@
 // The filters of rules and of clips, by their functions and by their types, over all sixteen fills.
 
 use overlay_base::segm::segment_fill::SegmentFill;
-use overlay_build::build::clip_filter::*;
-use overlay_build::build::filter::*;
+use overlay_upstream::build::clip_filter::*;
+use overlay_upstream::build::filter::*;
 
 /// What each filter keeps, in the order of `by_functions`.
 const KEPT: [&[SegmentFill]; 11] = [

@@ -15,7 +15,7 @@ use overlay_base::segm::boolean::ShapeCountBoolean;
 use overlay_build::build::builder::GraphBuilder;
 use overlay_build::build::graph::OverlayGraph;
 use overlay_build::build::graph_node::OverlayNode;
-use overlay_build::build::link_filter::filter_by_overlay_into;
+use overlay_upstream::build::link_filter::filter_by_overlay_into;
 use std::process::Abort;
 
 type Graph<'a> = OverlayGraph<'a, i32, ()>;

@@ -12,12 +12,12 @@ use overlay_geometry::geom::point::IntPoint;
 use overlay_sweep::build::fill_handler::StoreFillsHandler;
 use overlay_sweep::build::fill_strategy::EvenOddStrategy;
 use overlay_sweep::build::live_segments::LiveSegments;
-use overlay_sweep::build::scan_list::ScanList;
 use overlay_sweep::build::scan_row::ScanRow;
 use overlay_sweep::build::scan_rows::ScanRows;
-use overlay_sweep::build::scan_tree::ScanTree;
 use overlay_sweep::build::sweep::SweepRunner;
 use overlay_sweep::build::visits::sweep_with_handler;
+use overlay_upstream::build::scan_list::ScanList;
+use overlay_upstream::build::scan_tree::ScanTree;
 use std::process::Abort;
 
 /// How many lines are live together, at most: with so few the row is full of lines that have ended, and with so many

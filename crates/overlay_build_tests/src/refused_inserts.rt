@@ -18,12 +18,12 @@ use overlay_geometry::num::OverlayInt;
 use overlay_sweep::build::fill_handler::StoreFillsHandler;
 use overlay_sweep::build::fill_strategy::NonZeroStrategy;
 use overlay_sweep::build::live_segments::LiveSegments;
-use overlay_sweep::build::scan_list::ScanList;
 use overlay_sweep::build::scan_row::ScanRow;
 use overlay_sweep::build::scan_rows::ScanRows;
-use overlay_sweep::build::scan_tree::ScanTree;
 use overlay_sweep::build::visits::sweep_with_handler;
 use overlay_sweep::build::way::Way;
+use overlay_upstream::build::scan_list::ScanList;
+use overlay_upstream::build::scan_tree::ScanTree;
 use std::process::Abort;
 
 /// Live segments that refuse an insert after some others.

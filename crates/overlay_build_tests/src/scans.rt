@@ -18,11 +18,11 @@ use overlay_geometry::geom::point::IntPoint;
 use overlay_geometry::geom::v_segment::VSegment;
 use overlay_geometry::num::OverlayInt;
 use overlay_sweep::build::live_segments::LiveSegments;
-use overlay_sweep::build::scan_list::ScanList;
 use overlay_sweep::build::scan_row::ScanRow;
 use overlay_sweep::build::scan_rows::ScanRows;
-use overlay_sweep::build::scan_tree::ScanTree;
 use overlay_sweep::build::sweep::SweepRunner;
+use overlay_upstream::build::scan_list::ScanList;
+use overlay_upstream::build::scan_tree::ScanTree;
 use std::alloc::Global;
 use std::process::Abort;
 

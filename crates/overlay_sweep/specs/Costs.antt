@@ -2,11 +2,6 @@
 use Rattle.std.specs.Prelude.{ℕ, suc, Bool, MatchBool, ◌+◌, ◌*◌, ◌/◌, ◌^◌, ◌≤◌, List, length}
 use Rattle.overlay_base.specs.Segments.{WholeSegment}
 
--- A search by halves among n entries compares the least d for which 2 * n is no more than 2 ^ d: none among none, and else one more than
--- the logarithm of n to base 2, rounded up.
-abbrev pub IsSearchAmong : ℕ → ℕ → Type 0
-IsSearchAmong n d = (2 * n ≤ 2 ^ d) × ((e : ℕ) → 2 * n ≤ 2 ^ e → d ≤ e)
-
 -- no balanced tree of n entries is higher than d
 abbrev pub IsHighest : ℕ → ℕ → Type 0
 IsHighest n d = (h : ℕ) → 2 ^ (h / 2) ≤ n + 1 → h ≤ d

@@ -6,12 +6,11 @@ pub mod Live
 pub mod VisitOf
 pub mod SweepOf
 pub mod EntryOf
-pub mod TreeShapes
 pub mod Costs
 pub mod Supports
 pub mod LivePositions
-pub mod ScanTrees
 pub mod LiveOf
 pub mod Laws
+pub mod LiveRows
 -- what only contracts of private functions use
 pub mod steps

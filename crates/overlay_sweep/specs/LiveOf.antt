@@ -3,29 +3,12 @@ use Rattle.std.specs.Prelude.{ℕ, ℤ, List, map, length}
 use Rattle.overlay_geometry.specs.PointOf.{point_of}
 use Rattle.overlay_base.specs.Segments.{WholeSegment}
 use Rattle.overlay_sweep.specs.EntryOf.{entries_of}
-use Rattle.overlay_sweep.specs.ScanTrees.{IsScanList, IsCursorRow, AreCursorRows, IsScanTree, joined}
+use Rattle.overlay_sweep.specs.LiveRows.{IsCursorRow, AreCursorRows, joined}
 use Rattle.overlay_sweep.specs.declared.build.entry.Entry.{Entry}
-use Rattle.overlay_sweep.specs.declared.build.scan_list.ScanList.{ScanList}
 use Rattle.overlay_sweep.specs.declared.build.scan_row.ScanRow.{ScanRow}
 use Rattle.overlay_sweep.specs.declared.build.row_list.RowList.{RowList}
 use Rattle.overlay_sweep.specs.declared.build.scan_rows.ScanRows.{ScanRows}
-use Rattle.overlay_sweep.specs.declared.build.scan_tree.ScanTree.{ScanTree}
 use Rattle.overlay_sweep.specs.declared.build.sweep.SweepRunner.{SweepRunner}
-
--- the entries of a list, and their segments with the sums as counts
-abbrev pub list_entries : {C I : Type 0} {m : _} {w : _} {o : _} {e : _} {p : _} → ScanList C I m w o e p → List (Entry C I m w o e p)
-list_entries list = list.entries.items
-
-abbrev pub list_sums : {C I : Type 0} {m : _} {w : _} {o : _} {e : _} {p : _} → ScanList C I m w o e p → List WholeSegment
-list_sums list = entries_of (list_entries list)
-
--- how many entries it holds
-abbrev pub list_held : {C I : Type 0} {m : _} {w : _} {o : _} {e : _} {p : _} → ScanList C I m w o e p → ℕ
-list_held list = length (list_entries list)
-
--- the list is in order at x
-abbrev pub IsInOrderAt : {C I : Type 0} {m : _} {w : _} {o : _} {e : _} {p : _} → ℤ → ScanList C I m w o e p → Type 0
-IsInOrderAt {w = w} x list = IsScanList x (list_sums list) (w.whole list.least_end)
 
 -- the same of a row, in which some may have ended
 abbrev pub row_entries : {C I : Type 0} {m : _} {w : _} {o : _} {e : _} {p : _} → ScanRow C I m w o e p → List (Entry C I m w o e p)
@@ -53,32 +36,11 @@ rows_held rows = length (rows_sums rows)
 abbrev pub AreInRowsAt : {C I : Type 0} {m : _} {w : _} {o : _} {e : _} {p : _} → ℤ → ScanRows C I m w o e p → Type 0
 AreInRowsAt {w = w} x rows = AreCursorRows x (rows_in rows.entries) rows.has_cursor (point_of w.whole rows.point) rows.cursor.row rows.cursor.at
 
--- the entries of a tree since it was cleared, those that were taken out too; their segments with the sums as counts; and how many of them are in the tree
-abbrev pub tree_entries : {C I : Type 0} {m : _} {w : _} {o : _} {e : _} {p : _} → ScanTree C I m w o e p → List (Entry C I m w o e p)
-tree_entries tree = tree.entries.items
-
-abbrev pub tree_sums : {C I : Type 0} {m : _} {w : _} {o : _} {e : _} {p : _} → ScanTree C I m w o e p → List WholeSegment
-tree_sums tree = entries_of (tree_entries tree)
-
-abbrev pub tree_held : {C I : Type 0} {m : _} {w : _} {o : _} {e : _} {p : _} → ScanTree C I m w o e p → ℕ
-tree_held tree = tree.kept
-
--- the tree is sound at x
-abbrev pub IsSoundAt : {C I : Type 0} {m : _} {w : _} {o : _} {e : _} {p : _} → ℤ → ScanTree C I m w o e p → Type 0
-IsSoundAt x tree = IsScanTree x (tree_sums tree) tree.shape.nodes.items tree.root tree.kept
-
--- how many orders the last call has compared, and the last run that succeeded
-abbrev pub list_asked : {C I : Type 0} {m : _} {w : _} {o : _} {e : _} {p : _} → ScanList C I m w o e p → ℕ
-list_asked list = list.compared
-
 abbrev pub row_asked : {C I : Type 0} {m : _} {w : _} {o : _} {e : _} {p : _} → ScanRow C I m w o e p → ℕ
 row_asked row = row.compared
 
 abbrev pub rows_asked : {C I : Type 0} {m : _} {w : _} {o : _} {e : _} {p : _} → ScanRows C I m w o e p → ℕ
 rows_asked rows = rows.compared
-
-abbrev pub tree_asked : {C I : Type 0} {m : _} {w : _} {o : _} {e : _} {p : _} → ScanTree C I m w o e p → ℕ
-tree_asked tree = tree.compared
 
 abbrev pub run_asked : {C I : Type 0} {m : _} {w : _} {o : _} {e : _} {p : _} → SweepRunner C I m w o e p → ℕ
 run_asked runner = runner.compared

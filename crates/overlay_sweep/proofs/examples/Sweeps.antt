@@ -12,7 +12,7 @@ use Rattle.overlay_base.specs.declared.overlay_core.fill_rule.FillRule.TheVarian
 use Rattle.overlay_sweep.specs.ColumnWindings.{spans_column, column_bottom, column_top, right_winding, left_winding}
 use Rattle.overlay_sweep.specs.ChainWindings.{bottom, top, tops_leave_range}
 use Rattle.overlay_sweep.specs.Sweep.{fill_of, visits}
-use Rattle.overlay_sweep.specs.ScanTrees.{is_below_or_from}
+use Rattle.overlay_sweep.specs.LiveRows.{is_below_or_from}
 use Rattle.overlay_sweep.proofs.examples.Computing.{computing}
 
 abbrev pub pair : ℤ → ℤ → ℤ → ℤ → Pair

@@ -7,3 +7,7 @@ pub mod Halves
 pub mod LastingRows
 pub mod Cursors
 pub mod Rows
+pub mod Members
+pub mod RowGrowth
+pub mod RowOrders
+pub mod RowReads

@@ -2,7 +2,7 @@
 use Rattle.std.specs.Prelude.{◌≡◌, ℕ, Bool, true, ◌+◌, ◌-◌, ◌<◌, ◌≤◌, ◌⊎◌, ℤ, ◌≤ℤ◌, int_lt, List, [], filter, length, slice_set, All}
 use Rattle.std.specs.List.{remove}
 use Rattle.overlay_base.specs.Segments.{WholeSegment}
-use Rattle.overlay_sweep.specs.ScanTrees.{segment_at, lasts_past, row_at}
+use Rattle.overlay_sweep.specs.LiveRows.{segment_at, lasts_past, row_at}
 
 -- Segments were dropped, none of which lasts past x.
 pub record KeepsLasting (x : ℤ) (old new : List WholeSegment) : Type 0 where

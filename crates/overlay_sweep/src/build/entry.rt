@@ -9,9 +9,9 @@ use overlay_geometry::num::OverlayInt;
 use std::alloc::AllocError;
 
 /// A segment that is not vertical, with the sum above it.
-pub(crate) struct Entry<C: WindingCount, I: OverlayInt> {
-    pub(crate) segment: VSegment<I>,
-    pub(crate) sum: C,
+pub struct Entry<C: WindingCount, I: OverlayInt> {
+    pub segment: VSegment<I>,
+    pub sum: C,
     ghost in_range: { IsVSegmentInRange I.whole I.MIN_COORD I.MAX_COORD segment },
     ghost wide: { I.whole segment.a.x <ℤ I.whole segment.b.x },
 }
@@ -36,7 +36,7 @@ impl<C: WindingCount, I: OverlayInt> Entry<C, I> {
     ghost use Rattle.overlay_sweep.specs.steps.PlaceOf.{IsPlaceInRange, stands_before};
 
     /// Whether the segment ends right of `x`.
-    pub(crate) fn lasts_past(&self, x: I) -> bool
+    pub fn lasts_past(&self, x: I) -> bool
         ensures { result ≡ int_lt (I.whole x) (I.whole self.now.segment.b.x) }
     {
         x < self.segment.b.x
@@ -45,7 +45,7 @@ impl<C: WindingCount, I: OverlayInt> Entry<C, I> {
     /// Whether the segment comes before a place. Every order of an entry is compared here, and is
     /// counted.
     #[inline(always)]
-    pub(crate) fn is_before(&self, place: &Place<I>, compared: &mut u64) -> bool
+    pub fn is_before(&self, place: &Place<I>, compared: &mut u64) -> bool
         requires { IsPlaceInRange I.whole I.MIN_COORD I.MAX_COORD place.now }
         ensures value { result ≡ stands_before I.whole place.now (v_pair_of I.whole self.now.segment) }
         ensures compared { compared.new ≡ min (compared.old + 1) (2 ^ 64 - 1) }

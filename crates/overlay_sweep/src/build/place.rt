@@ -7,7 +7,7 @@ use overlay_geometry::num::OverlayInt;
 /// A place among live segments, in their order from below: that of a point, above each segment that runs below it, or
 /// that of a segment, above each one that it does not run below.
 #[derive(Clone, Copy)]
-pub(crate) enum Place<I> {
+pub enum Place<I> {
     Point(IntPoint<I>),
     Segment(VSegment<I>),
 }
@@ -19,7 +19,7 @@ impl<I: OverlayInt> Place<I> {
 
     /// Whether a segment comes before the place.
     #[inline(always)]
-    pub(crate) fn is_after(&self, segment: &VSegment<I>) -> bool
+    pub fn is_after(&self, segment: &VSegment<I>) -> bool
         requires place { IsPlaceInRange I.whole I.MIN_COORD I.MAX_COORD self.now }
         requires segment { IsVSegmentInRange I.whole I.MIN_COORD I.MAX_COORD segment.now }
         ensures { result ≡ stands_before I.whole self.now (v_pair_of I.whole segment.now) }

@@ -36,7 +36,7 @@ impl<C: WindingCount, I: OverlayInt> RowList<C, I> {
     ghost use Rattle.overlay_sweep.specs.EntryOf.{entry_of};
     ghost use Rattle.overlay_sweep.specs.LiveOf.{rows_in};
     ghost use Rattle.overlay_sweep.specs.LivePositions.{IsLivePosition};
-    ghost use Rattle.overlay_sweep.specs.ScanTrees.{lasts_past, segment_at, joined, row_at, HaveSome, index_in, IsIndexIn};
+    ghost use Rattle.overlay_sweep.specs.LiveRows.{lasts_past, segment_at, joined, row_at, HaveSome, index_in, IsIndexIn};
     ghost use Rattle.overlay_sweep.specs.steps.PlaceOf.{IsPlaceInRange, stands_before};
     ghost use Rattle.overlay_sweep.specs.steps.Positions.{IsElsewhere, IsPutIn};
     ghost use Rattle.overlay_sweep.specs.steps.Rows.{KeepsLasting, EndsWith, IsTrimmed, IsRowDropped, HaveSomeBut, IsNextNear};

@@ -31,7 +31,7 @@ impl<C: WindingCount, I: OverlayInt> ScanRow<C, I> {
     ghost use Rattle.std.specs.Prelude.{ℕ, ℤ, ◌*◌, ◌+◌, ◌<◌, ◌≤◌, ◌^◌, suc, ◌≤ℤ◌, ◌<ℤ◌, int_lt, ◌⊎◌, not, true, false};
     ghost use Rattle.std.specs.Prelude.{[], ◌∷◌, ◌++◌, ◌-◌, All, filter, take, drop, length, OnOk, IfOk, IfErr};
     ghost use Rattle.overlay_sweep.specs.EntryOf.{entry_of, entries_of};
-    ghost use Rattle.overlay_sweep.specs.ScanTrees.{lasts_past, segment_at, is_below_or_from};
+    ghost use Rattle.overlay_sweep.specs.LiveRows.{lasts_past, segment_at, is_below_or_from};
     ghost use Rattle.std.specs.Ordering.{is_lt};
     ghost use Rattle.overlay_geometry.specs.Points.{point_eq};
     ghost use Rattle.overlay_geometry.specs.PointOf.{point_of};
@@ -290,8 +290,7 @@ impl<C: WindingCount, I: OverlayInt> LiveSegments<C, I> for ScanRow<C, I> {
     ghost use Rattle.overlay_geometry.specs.InRange.{IsPointInRange};
     ghost use Rattle.overlay_sweep.specs.Costs.{IsInsertCost, IsSearchCost};
     ghost use Rattle.overlay_sweep.specs.EntryOf.{summed};
-    ghost use Rattle.overlay_sweep.specs.Live.{sum_below};
-    ghost use Rattle.overlay_sweep.specs.Live.{HoldSameFrom, AreFreeAt};
+    ghost use Rattle.overlay_sweep.specs.Live.{sum_below, HoldSameFrom, AreFreeAt};
     ghost use Rattle.overlay_sweep.specs.LiveOf.{row_sums, row_held, row_asked, IsInRowAt};
 
     ghost sums = { λ row. row_sums row };

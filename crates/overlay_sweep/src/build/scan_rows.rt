@@ -39,7 +39,7 @@ impl<C: WindingCount, I: OverlayInt> ScanRows<C, I> {
     ghost use Rattle.overlay_sweep.specs.Live.{HoldSameFrom, AreFreeAt};
     ghost use Rattle.overlay_sweep.specs.LiveOf.{rows_in, rows_sums, rows_held, rows_asked, AreInRowsAt};
     ghost use Rattle.overlay_sweep.specs.LivePositions.{IsLivePosition};
-    ghost use Rattle.overlay_sweep.specs.ScanTrees.{lasts_past, segment_at, is_below_or_from, HaveSome, index_in, IsIndexIn};
+    ghost use Rattle.overlay_sweep.specs.LiveRows.{lasts_past, segment_at, is_below_or_from, HaveSome, index_in, IsIndexIn};
     ghost use Rattle.overlay_sweep.specs.steps.Rows.{KeepsLasting, HaveSomeBut};
 
     /// No rows, which take no memory yet.
@@ -157,8 +157,7 @@ impl<C: WindingCount, I: OverlayInt> LiveSegments<C, I> for ScanRows<C, I> {
     ghost use Rattle.overlay_geometry.specs.InRange.{IsPointInRange};
     ghost use Rattle.overlay_sweep.specs.Costs.{IsHighest, IsInsertCost, IsSearchCost};
     ghost use Rattle.overlay_sweep.specs.EntryOf.{summed};
-    ghost use Rattle.overlay_sweep.specs.Live.{sum_below};
-    ghost use Rattle.overlay_sweep.specs.Live.{HoldSameFrom, AreFreeAt};
+    ghost use Rattle.overlay_sweep.specs.Live.{sum_below, HoldSameFrom, AreFreeAt};
     ghost use Rattle.overlay_sweep.specs.LiveOf.{rows_sums, rows_held, rows_asked, AreInRowsAt};
 
     ghost sums = { λ rows. rows_sums rows };

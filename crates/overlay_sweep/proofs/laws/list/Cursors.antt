@@ -14,13 +14,13 @@ use Rattle.overlay_geometry.proofs.laws.integers.Tests.{le-test, lt-test}
 use Rattle.overlay_geometry.proofs.laws.lists.Elements.{Contains-from_Has}
 use Rattle.overlay_sweep.specs.ChainWindings.{is_live}
 use Rattle.overlay_sweep.specs.Live.{AreFreeAt}
-use Rattle.overlay_sweep.specs.ScanTrees.{segment_at, lasts_past, is_below_or_from, IsScanRow, IsCursorRow}
+use Rattle.overlay_sweep.specs.LiveRows.{segment_at, lasts_past, is_below_or_from, IsScanRow, IsCursorRow}
 use Rattle.overlay_sweep.specs.LivePositions.{HasNext, IsLivePosition}
 use Rattle.overlay_sweep.specs.steps.Positions.{IsElsewhere}
 use Rattle.overlay_sweep.proofs.laws.columns.ColumnOrder.{is_apart}
 use Rattle.overlay_sweep.proofs.laws.columns.Tops.{spans_live}
 use Rattle.overlay_sweep.proofs.laws.live.UnderOrders.{under_by_point}
-use Rattle.overlay_sweep.proofs.laws.tree.ScanOrders.{live_member}
+use Rattle.overlay_sweep.proofs.laws.list.RowOrders.{live_member}
 
 or_parts : (a b : Bool) → (a || b) ≡ false → (a ≡ false) × (b ≡ false)
 or_parts true b h = absurd (both_ways true h refl)

@@ -4,7 +4,7 @@ use Rattle.std.specs.Prelude.{ℕ, zero, suc, Bool, true, false, ◌+◌, ◌-�
 use Rattle.std.proofs.lemmas.Bool.{cases_lt}
 use Rattle.std.proofs.Math.Nat.{two-pow-succ, add-mul, mul-le-mul_right}
 use Rattle.overlay_base.specs.Segments.{WholeSegment}
-use Rattle.overlay_sweep.specs.ScanTrees.{segment_at}
+use Rattle.overlay_sweep.specs.LiveRows.{segment_at}
 use Rattle.overlay_sweep.specs.LivePositions.{HasNext, IsLivePosition}
 use Rattle.overlay_sweep.proofs.laws.list.Searches.{short_count}
 

@@ -16,8 +16,7 @@ use Rattle.overlay_geometry.specs.Below.{under_segment_order}
 use Rattle.overlay_geometry.proofs.laws.integers.Tests.{lt-test}
 use Rattle.overlay_geometry.proofs.laws.lists.Lists.{filter-map}
 use Rattle.overlay_sweep.specs.Live.{sum_below, AreFreeAt, HoldSameFrom}
-use Rattle.overlay_sweep.specs.TreeShapes.{Has}
-use Rattle.overlay_sweep.specs.ScanTrees.{segment_at, lasts_past, IsFromBelow, IsScanRow}
+use Rattle.overlay_sweep.specs.LiveRows.{Has, segment_at, lasts_past, IsFromBelow, IsScanRow}
 use Rattle.overlay_sweep.specs.LivePositions.{IsLivePosition}
 use Rattle.overlay_sweep.specs.steps.Positions.{IsPosition, IsPutIn}
 use Rattle.overlay_sweep.proofs.laws.live.LiveSums.{HoldSameFrom-trans, All-between}

@@ -1,33 +1,30 @@
 -- What a search in a list returns, and the list after a call.
-use Rattle.std.proofs.Common.{◌≡◌, ◌≢◌, ap, ap₂, refl, sym, subst, ◌∙◌, arith, inl, inr, get_or}
-use Rattle.std.specs.Prelude.{ℕ, suc, ◌+◌, ◌-◌, ◌<◌, ℤ, pos, ◌≤ℤ◌, ◌<ℤ◌, int_le, int_lt, Bool, true, false, not, cond, ◌&&◌, if◌then◌else◌, List, [], ◌∷◌, ◌++◌, map, filter, take, drop, length, All}
-use Rattle.std.specs.List.{range_with_len, take-map, drop-map}
+use Rattle.std.proofs.Common.{◌≡◌, ◌≢◌, ap, refl, sym, subst, ◌∙◌, arith, inl, inr}
+use Rattle.std.specs.Prelude.{ℕ, suc, ◌+◌, ◌-◌, ◌<◌, ℤ, pos, ◌≤ℤ◌, ◌<ℤ◌, int_le, int_lt, Bool, true, false, not, cond, ◌&&◌, List, [], ◌∷◌, ◌++◌, filter, take, drop, length, All}
+use Rattle.std.specs.List.{range_with_len}
 use Rattle.std.specs.Ordering.{is_lt, ordering_then}
 use Rattle.std.specs.Option.{option_map_or}
 use Rattle.std.proofs.lemmas.Int.{ints}
-use Rattle.std.proofs.lemmas.Bool.{and_from, both_ways}
-use Rattle.std.proofs.lemmas.List.{length-map, map-append, map_more, take-append-drop}
-use Rattle.std.proofs.lemmas.List.Elements.{All-append, All-filter}
+use Rattle.std.proofs.lemmas.Bool.{and_from}
+use Rattle.std.proofs.lemmas.List.{take-append-drop}
+use Rattle.std.proofs.lemmas.List.Elements.{All-filter}
 use Rattle.std.proofs.lemmas.List.FromFn.{length-range_with_len}
 use Rattle.overlay_geometry.specs.Points.{Point, turn}
 use Rattle.overlay_geometry.specs.Below.{height_cmp, angle_cmp, under_segment_order}
 use Rattle.overlay_geometry.specs.Sorting.{greatest}
 use Rattle.overlay_base.specs.Segments.{WholeSegment}
 use Rattle.overlay_base.specs.Windings.{Winding}
-use Rattle.overlay_geometry.proofs.laws.integers.Tests.{le-test, lt-test, lt-tested, le_through, lt_through}
-use Rattle.overlay_geometry.proofs.laws.lists.Lists.{filter-map}
+use Rattle.overlay_geometry.proofs.laws.integers.Tests.{le-test, lt-test, lt-tested, le_through}
 use Rattle.overlay_geometry.proofs.laws.lists.Lists as lists
 use Rattle.overlay_sweep.specs.ChainWindings.{is_live, directly_below}
 use Rattle.overlay_sweep.specs.Live.{sum_below, AreFreeAt, HoldSameFrom}
-use Rattle.overlay_sweep.specs.TreeShapes.{Has}
-use Rattle.overlay_sweep.specs.ScanTrees.{segment_at, lasts_past, is_live_at, IsFromBelow, IsScanRow, IsScanList}
+use Rattle.overlay_sweep.specs.LiveRows.{Has, segment_at, lasts_past, is_live_at, IsFromBelow, IsScanRow, IsScanList}
 use Rattle.overlay_sweep.specs.steps.Positions.{IsPosition}
 use Rattle.overlay_sweep.proofs.laws.live.LiveSums.{AreFreeAt-same, HoldSameFrom-cons, HoldSameFrom-trans, HoldSameFrom-between, All-between, begins_later}
 use Rattle.overlay_sweep.proofs.laws.live.ScanSums.{lasting, HoldSameFrom-lasting}
 use Rattle.overlay_sweep.proofs.laws.columns.Members.{All-from_Has}
-use Rattle.overlay_sweep.proofs.laws.tree.ScanOrders.{live_within, sum_of_none, sum_of_last}
-use Rattle.overlay_sweep.proofs.laws.tree.ScanGrowth.{from_below_later, live_earlier, begun_by_index, begun_pushed}
-use Rattle.overlay_sweep.proofs.laws.tree.ScanAnswers.{begun_member}
+use Rattle.overlay_sweep.proofs.laws.list.RowOrders.{live_within, sum_of_none, sum_of_last}
+use Rattle.overlay_sweep.proofs.laws.list.RowGrowth.{from_below_later, live_earlier, begun_by_index, begun_pushed, begun_member}
 use Rattle.overlay_sweep.proofs.laws.list.ListReads.{in_row, row_has}
 use Rattle.overlay_sweep.proofs.laws.list.ListOrders.{from_below_lasting, last_of_row, first_of_row, row_at, from_below_placed}
 
@@ -45,21 +42,12 @@ list_later x y ks least h l = record { row = row_later x y ks h l.row; least = l
 pub row_empty : (x : ℤ) (ks : List WholeSegment) → ks ≡ [] → IsScanRow x ks
 row_empty x ks e = subst (IsScanRow x) (sym e) (record { begun = λ k d h. absurd (omega (arith, h)); from_below = tt })
 
-pub list_empty : (x : ℤ) (ks : List WholeSegment) (least : ℤ) → ks ≡ [] → IsScanList x ks least
-list_empty x ks least e = record { row = row_empty x ks e; least = subst (λ l. All (λ s. least ≤ℤ s.pair.b.x) l) (sym e) (λ k d h. absurd (omega (arith, h))) }
-
 -- ---- no end is left of a lesser one
 
-ends_later : (least next : ℤ) → next ≤ℤ least → (ks : List WholeSegment) → All (λ s. least ≤ℤ s.pair.b.x) ks → All (λ s. next ≤ℤ s.pair.b.x) ks
+pub ends_later : (least next : ℤ) → next ≤ℤ least → (ks : List WholeSegment) → All (λ s. least ≤ℤ s.pair.b.x) ks → All (λ s. next ≤ℤ s.pair.b.x) ks
 ends_later least next h ks a j d n = le_through next least _ h (a j d n)
 
 -- ---- what lasts of the entries
-
-pub entries_kept : {E : Type 0} (f : E → WholeSegment) (x : ℤ) (old kept : List E) → kept ≡ filter (λ e. lasting x (f e)) old → map f kept ≡ filter (λ t. lasting x t) (map f old)
-entries_kept f x old kept e = ap (map f) e ∙ sym (filter-map (λ t. lasting x t) f old)
-
-pub position_kept : {E : Type 0} (f : E → WholeSegment) (items : List E) (before : ℕ → Bool) (at : ℕ) → IsPosition before (length items) at → IsPosition before (length (map f items)) at
-position_kept f items before at = subst (λ n. IsPosition before n at) (sym (length-map items f))
 
 module _ (x : ℤ) (os ks : List WholeSegment) (is : ks ≡ filter (λ t. lasting x t) os) where
   pub kept_sums : HoldSameFrom x ks os
@@ -183,24 +171,3 @@ module _ (p : Point) (os ks : List WholeSegment) (at : ℕ) (place : IsPosition 
 
   pub last_found : (x : ℤ) → p.x ≡ x → ks ≡ filter (λ t. lasting x t) os → IsScanRow x os → AreFreeAt x os → at ≢ 0 → (segment_at ks (at - 1)).count ≡ sum_below os p default
   last_found x e is l free = subst (λ z. ks ≡ filter (λ t. lasting z t) os → IsScanRow z os → AreFreeAt z os → at ≢ 0 → (segment_at ks (at - 1)).count ≡ sum_below os p default) e last_below is l free
-
--- ---- the least end
-
--- where none has ended, all are left
-pub none_ended : {E : Type 0} (f : E → WholeSegment) (x least : ℤ) (items : List E) → x <ℤ least → All (λ s. least ≤ℤ s.pair.b.x) (map f items) → items ≡ filter (λ e. lasting x (f e)) items
-none_ended f x least [] h a = refl
-none_ended f x least (e ∷ es) h a =
-    let first : least ≤ℤ (f e).pair.b.x = a 0 (f e) (omega arith) in
-    rw (lt-test x (f e).pair.b.x (lt_through x least (f e).pair.b.x h first)) (ap (λ l. e ∷ l) (none_ended f x least es h (λ k d n. a (suc k) d (omega (arith, n)))))
-
--- one more of the code's entries
-pub least_more : {E : Type 0} (f : E → WholeSegment) (items : List E) (i : ℕ) (entry : E) → i < length items → entry ≡ get_or items i entry → (least next : ℤ) → All (λ s. least ≤ℤ s.pair.b.x) (map f (take i items)) → next ≤ℤ least → next ≤ℤ (f entry).pair.b.x → All (λ s. next ≤ℤ s.pair.b.x) (map f (take (i + 1) items))
-least_more f items i entry within at least next a h k =
-    subst (λ l. All (λ s. next ≤ℤ s.pair.b.x) l) (sym (map_more f items i entry within ∙ ap (λ e. map f (take i items) ++ f e ∷ []) (sym at)))
-    (All-append (λ s. next ≤ℤ s.pair.b.x) (map f (take i items)) (f entry ∷ []) (ends_later least next h (map f (take i items)) a) (λ j d n. let e : j ≡ 0 = omega (arith, n) in rw e k))
-
--- ---- an entry put in at its position
-
-pub entries_placed : {E : Type 0} (f : E → WholeSegment) (items new : List E) (at : ℕ) (entry : E) (b : Bool) → b ≡ true → new ≡ (if b then take at items ++ entry ∷ drop at items else items) → map f new ≡ take at (map f items) ++ f entry ∷ drop at (map f items)
-entries_placed f items new at entry true t e = ap (map f) e ∙ map-append f (take at items) (entry ∷ drop at items) ∙ ap₂ (λ l r. l ++ f entry ∷ r) (sym (take-map f at items)) (sym (drop-map f at items))
-entries_placed f items new at entry false t e = absurd (both_ways false refl t)

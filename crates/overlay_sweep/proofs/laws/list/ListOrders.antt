@@ -10,12 +10,11 @@ use Rattle.overlay_geometry.proofs.laws.lists.Lists.{filter-map}
 use Rattle.overlay_geometry.proofs.laws.lists.Lists as lists
 use Rattle.overlay_sweep.specs.ChainWindings.{is_live}
 use Rattle.overlay_sweep.specs.Live.{AreFreeAt}
-use Rattle.overlay_sweep.specs.TreeShapes.{Has, HasLast, HasFirst}
-use Rattle.overlay_sweep.specs.ScanTrees.{segment_at, lasts_past, IsFromBelow}
+use Rattle.overlay_sweep.specs.LiveRows.{Has, HasLast, HasFirst, segment_at, lasts_past, IsFromBelow}
 use Rattle.overlay_sweep.specs.steps.Positions.{IsPosition}
 use Rattle.overlay_sweep.proofs.laws.live.ScanSums.{lasting}
-use Rattle.overlay_sweep.proofs.laws.tree.ScanOrders.{placed_from_below}
-use Rattle.overlay_sweep.proofs.laws.tree.ScanGrowth.{length_pushed, from_below_pushed, free_pushed, segment_at_pushed, segment_at_last}
+use Rattle.overlay_sweep.proofs.laws.list.RowOrders.{placed_from_below}
+use Rattle.overlay_sweep.proofs.laws.list.RowGrowth.{length_pushed, from_below_pushed, free_pushed, segment_at_pushed, segment_at_last}
 use Rattle.overlay_sweep.proofs.laws.list.ListReads.{in_row, row_parts, read_whole, read_first, read_rest}
 
 -- ---- the same segments in the same order, by other indexes

@@ -6,8 +6,7 @@ use Rattle.std.proofs.lemmas.Bool.{cases_lt}
 use Rattle.std.proofs.lemmas.List.{append-nil}
 use Rattle.std.proofs.lemmas.List.FromFn.{take-map-range_with_len}
 use Rattle.overlay_base.specs.Segments.{WholeSegment}
-use Rattle.overlay_sweep.specs.TreeShapes.{Has}
-use Rattle.overlay_sweep.specs.ScanTrees.{segment_at}
+use Rattle.overlay_sweep.specs.LiveRows.{Has, segment_at}
 
 -- ---- indexes in a row
 

@@ -12,7 +12,7 @@ use Rattle.std.proofs.Math.Nat.{two-pow-succ}
 use Rattle.std.proofs.Math.Pow.{pow_mono}
 use Rattle.std.proofs.Math.Seq.{take-append-add, drop-append-add}
 use Rattle.overlay_base.specs.Segments.{WholeSegment}
-use Rattle.overlay_sweep.specs.ScanTrees.{segment_at, lasts_past, joined, row_at, HaveSome, index_in, IsIndexIn, AreCursorRows}
+use Rattle.overlay_sweep.specs.LiveRows.{segment_at, lasts_past, joined, row_at, HaveSome, index_in, IsIndexIn, AreCursorRows}
 use Rattle.overlay_geometry.specs.Points.{Point}
 use Rattle.overlay_sweep.specs.Costs.{IsHighest}
 use Rattle.overlay_sweep.specs.LivePositions.{HasNext, IsLivePosition}

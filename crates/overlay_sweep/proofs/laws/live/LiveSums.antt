@@ -1,9 +1,7 @@
 -- Lists of live sums that hold the same from some x on.
 use Rattle.std.proofs.Common.{◌≡◌, ap, refl, sym, subst, arith, inl, inr}
-use Rattle.std.specs.Prelude.{suc, true, ℤ, ◌≤ℤ◌, ◌<ℤ◌, int_le, int_lt, ◌&&◌, Bool, false, not, List, [], ◌∷◌, ◌++◌, filter, All}
+use Rattle.std.specs.Prelude.{suc, true, ℤ, ◌≤ℤ◌, ◌<ℤ◌, int_le, int_lt, ◌&&◌, false, not, List, [], ◌∷◌, ◌++◌, All}
 use Rattle.std.specs.List.{Contains}
-use Rattle.std.specs.List.Retain.{IsFiltered}
-use Rattle.std.proofs.lemmas.Fn.{filter_same}
 use Rattle.std.proofs.lemmas.Int.{ints}
 use Rattle.std.proofs.lemmas.Bool.{and_parts}
 use Rattle.std.proofs.lemmas.List.Elements.{Contains-push, Contains-push_cases, Contains-append_left, All-contains}
@@ -113,7 +111,3 @@ HoldSameFrom-renamed x z xs ys old e f p q r h = subst (λ u. HoldSameFrom u xs 
 
 pub vertical_same : (s : Pair) → not (is_vertical s) ≡ false → s.a.x ≡ s.b.x
 vertical_same s h = grind (arith, ints)
-
--- what `retain` keeps, where its test changes nothing
-pub kept_by : {X F : Type 0} (R : F → X → Bool → F → Type 0) (test : X → Bool) (f : F) (xs ys : List X) → IsFiltered R f xs ys → ((x : X) (b : Bool) (g : F) → R f x b g → (b ≡ test x) × (g ≡ f)) → ys ≡ filter test xs
-kept_by R test f xs ys kept h = filter_same R test f h xs ys kept

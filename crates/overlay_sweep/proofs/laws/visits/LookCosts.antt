@@ -1,15 +1,14 @@
 -- What calls on live segments compare, summed over a sweep: each entry that is held can pay for one look more.
 use Rattle.std.proofs.Common.{◌≡◌, ap, refl, sym, ◌∙◌, arith, inl, inr, Ordering}
-use Rattle.std.specs.Prelude.{Bool, true, if◌then◌else◌, ◌++◌, ℕ, suc, ◌+◌, ◌-◌, ◌*◌, ◌^◌, ◌<◌, ◌≤◌, List, [], ◌∷◌, length, map, filter, take, drop}
+use Rattle.std.specs.Prelude.{ℕ, suc, ◌+◌, ◌-◌, ◌*◌, ◌<◌, ◌≤◌, List, [], ◌∷◌, length, map, drop}
 use Rattle.std.specs.List.{enumerate_from}
 use Rattle.std.specs.Ordering.{is_lt}
 use Rattle.std.proofs.lemmas.Bool.{cases_Bool}
-use Rattle.std.proofs.lemmas.List.{length-map, length-take, length-append, take-append-drop}
-use Rattle.std.proofs.lemmas.List.Sums.{length-filter, count_by-le-length}
+use Rattle.std.proofs.lemmas.List.{length-map, length-take}
 use Rattle.std.proofs.Math.Nat.{add-mul, suc-mul, mul-le-mul_right}
 use Rattle.overlay_geometry.specs.Sorting.{insert_before_ties, stably_sorted}
 use Rattle.overlay_base.specs.Segments.{WholeSegment}
-use Rattle.overlay_sweep.specs.Costs.{IsSearchAmong, IsHighest}
+use Rattle.overlay_sweep.specs.Costs.{IsHighest}
 use Rattle.overlay_sweep.specs.steps.WayOf.{WholeWay, ways_between, by_angle}
 
 -- ---- how many ways a start point has
@@ -37,21 +36,6 @@ ways_within f items segments i next e =
 pub highest_of_fewer : (was n d : ℕ) → was ≤ n → IsHighest n d → IsHighest was d
 highest_of_fewer was n d within high = λ h fits. high h (omega (arith, within, fits))
 
--- what was dropped pays for looks
-pub drops_pay : (asked was kept d : ℕ) → kept ≤ was → asked ≤ suc (was - kept) * d → asked + kept * d ≤ suc was * d
-drops_pay asked was kept d k h =
-    let parts = add-mul (suc (was - kept)) kept d in
-    let e : suc (was - kept) + kept ≡ suc was = omega (arith, k) in
-    omega (arith, h, parts, ap (λ n. n * d) e)
-
--- what lasts of a list
-pub fewer_last : {E : Type 0} (lasts : E → Bool) (old new : List E) → new ≡ filter lasts old → length new ≤ length old
-fewer_last lasts old new e = omega (arith, ap length e, length-filter lasts old, count_by-le-length lasts old)
-
--- a search among no more than n entries
-pub search_asks : (asked held n d : ℕ) → IsSearchAmong held asked → held ≤ n → 2 * n ≤ 2 ^ d → asked ≤ d
-search_asks asked held n d is within most = is.1 d (omega (arith, within, most))
-
 -- a search pays for itself
 pub search_pays : (asked now was d : ℕ) → asked ≤ d → now ≤ was → asked + now * d ≤ suc was * d
 search_pays asked now was d few fewer = omega (arith, few, mul-le-mul_right d fewer, suc-mul was d)
@@ -59,12 +43,6 @@ search_pays asked now was d few fewer = omega (arith, few, mul-le-mul_right d fe
 -- and for an entry more
 pub pays_for_one : (asked kept now was d : ℕ) → now ≤ suc kept → asked + kept * d ≤ suc was * d → asked + now * d ≤ suc (suc was) * d
 pays_for_one asked kept now was d more h = omega (arith, h, mul-le-mul_right d more, suc-mul kept d, suc-mul (suc was) d)
-
--- an entry more
-pub one_more : {X : Type 0} (entry : X) (at : ℕ) (xs ys : List X) (b : Bool) → b ≡ true → ys ≡ (if b then take at xs ++ entry ∷ drop at xs else xs) → length ys ≡ suc (length xs)
-one_more entry at xs ys b t e =
-    let parts : length xs ≡ length (take at xs) + length (drop at xs) = sym (ap (λ l. length l) (take-append-drop at xs)) ∙ length-append (take at xs) (drop at xs) in
-    omega (arith, ap length (rw t at e), length-append (take at xs) (entry ∷ drop at xs), parts)
 
 -- no call
 pub uncalled_pays : (asked held d : ℕ) → asked + held * d ≤ asked + suc (suc held) * d

@@ -4,10 +4,10 @@ use Rattle.std.proofs.lemmas.List.{length-map, map-set, get_or-set_same}
 use Rattle.overlay_base.specs.Segments.{WholeSegment}
 use Rattle.overlay_sweep.specs.EntryOf.{entry_of}
 use Rattle.overlay_sweep.specs.LiveOf.{row_entries, row_sums}
-use Rattle.overlay_sweep.specs.ScanTrees.{lasts_past, segment_at}
+use Rattle.overlay_sweep.specs.LiveRows.{lasts_past, segment_at}
 use Rattle.overlay_sweep.specs.steps.PlaceOf.{stands_before}
 use Rattle.overlay_sweep.specs.steps.Rows.{KeepsLasting}
-use Rattle.overlay_sweep.proofs.laws.tree.ScanReads.{segment_read}
+use Rattle.overlay_sweep.proofs.laws.list.RowReads.{segment_read}
 use Rattle.overlay_sweep.proofs.laws.list.LastingRows.{entries_without}
 use Rattle.overlay_sweep.proofs.laws.list.Rows.{row_read, remove_set, none_of}
 use Rattle.overlay_sweep.proofs.build.row_list.RowList.ask_last.Goals as goal

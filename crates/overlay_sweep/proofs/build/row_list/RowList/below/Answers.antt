@@ -4,8 +4,8 @@ use Rattle.std.proofs.lemmas.List.{length-map}
 use Rattle.std.proofs.lemmas.Grind.{common_steps}
 use Rattle.overlay_sweep.specs.EntryOf.{entry_of}
 use Rattle.overlay_sweep.specs.LiveOf.{row_sums, rows_in}
-use Rattle.overlay_sweep.specs.ScanTrees.{joined, row_at, index_in, segment_at}
-use Rattle.overlay_sweep.proofs.laws.tree.ScanReads.{segment_read}
+use Rattle.overlay_sweep.specs.LiveRows.{joined, row_at, index_in, segment_at}
+use Rattle.overlay_sweep.proofs.laws.list.RowReads.{segment_read}
 use Rattle.overlay_sweep.proofs.laws.list.Rows.{row_read, read_in, read_before_row}
 use Rattle.overlay_sweep.proofs.build.row_list.RowList.below.Goals as goal
 

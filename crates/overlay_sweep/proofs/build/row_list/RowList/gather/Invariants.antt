@@ -1,7 +1,7 @@
 use Rattle.std.proofs.Common.{◌≡◌}
 use Rattle.std.specs.Prelude.{take}
 use Rattle.overlay_sweep.specs.LiveOf.{row_sums, rows_in}
-use Rattle.overlay_sweep.specs.ScanTrees.{joined}
+use Rattle.overlay_sweep.specs.LiveRows.{joined}
 use Rattle.overlay_sweep.proofs.build.row_list.RowList.gather.Given as goal
 
 abbrev pub invariant-loop-row : goal.invariant-loop-row

@@ -4,7 +4,7 @@ use Rattle.std.proofs.lemmas.List.{length-map, length-take, length-drop, take-ap
 use Rattle.std.proofs.lemmas.Grind.{common_steps}
 use Rattle.overlay_sweep.specs.EntryOf.{entry_of}
 use Rattle.overlay_sweep.specs.LiveOf.{row_sums, rows_in}
-use Rattle.overlay_sweep.specs.ScanTrees.{joined, row_at, index_in}
+use Rattle.overlay_sweep.specs.LiveRows.{joined, row_at, index_in}
 use Rattle.overlay_sweep.specs.steps.Rows.{HaveSomeBut}
 use Rattle.overlay_sweep.proofs.laws.list.Rows.{row_read, rows_cut, index_inside, cut_at, cut_joined, cut_low, cut_high, cut_some, cut_index_low, cut_index_high, cut_length}
 use Rattle.overlay_sweep.proofs.build.row_list.RowList.make_room.Goals as goal

@@ -5,7 +5,7 @@ use Rattle.std.proofs.lemmas.Result.{IfOk-from_err}
 use Rattle.std.proofs.lemmas.Grind.{common_steps}
 use Rattle.overlay_sweep.specs.EntryOf.{entry_of}
 use Rattle.overlay_sweep.specs.LiveOf.{row_sums, rows_in}
-use Rattle.overlay_sweep.specs.ScanTrees.{joined, row_at, index_in, HaveSome, IsIndexIn, lasts_past}
+use Rattle.overlay_sweep.specs.LiveRows.{joined, row_at, index_in, HaveSome, IsIndexIn, lasts_past}
 use Rattle.overlay_sweep.specs.steps.Positions.{IsPutIn}
 use Rattle.overlay_sweep.proofs.laws.list.Rows.{row_read, entries_put_in, rows_put, some_put, longer_put, set_some, index_set, put_joined}
 use Rattle.overlay_sweep.proofs.build.row_list.RowList.put.Goals as goal

@@ -4,7 +4,7 @@ use Rattle.std.proofs.lemmas.List.{length-map, map-set}
 use Rattle.overlay_sweep.specs.EntryOf.{entry_of}
 use Rattle.overlay_sweep.specs.LiveOf.{row_sums, rows_in}
 use Rattle.overlay_sweep.specs.LivePositions.{IsLivePosition}
-use Rattle.overlay_sweep.specs.ScanTrees.{joined, row_at, HaveSome, index_in, IsIndexIn, lasts_past, segment_at}
+use Rattle.overlay_sweep.specs.LiveRows.{joined, row_at, HaveSome, index_in, IsIndexIn, lasts_past, segment_at}
 use Rattle.overlay_sweep.specs.steps.PlaceOf.{stands_before}
 use Rattle.overlay_sweep.specs.steps.Rows.{KeepsLasting, EndsWith, IsNextNear}
 use Rattle.overlay_sweep.proofs.laws.list.Rows.{keeps_on, keeps_set, row_read, room_of, many_of, next_of_end, searched_some, searched_index, searched_near, searched_position, ended_position, ended_near, two_searches, search_and_one}

@@ -4,7 +4,7 @@ use Rattle.std.proofs.lemmas.List.{append-nil}
 use Rattle.std.proofs.lemmas.Result.{IfOk-from_err}
 use Rattle.overlay_base.specs.Segments.{WholeSegment}
 use Rattle.overlay_sweep.specs.LiveOf.{rows_in}
-use Rattle.overlay_sweep.specs.ScanTrees.{joined}
+use Rattle.overlay_sweep.specs.LiveRows.{joined}
 use Rattle.overlay_sweep.specs.steps.Rows.{KeepsLasting}
 use Rattle.overlay_sweep.proofs.laws.list.Rows.{search_and_one}
 use Rattle.overlay_sweep.proofs.build.row_list.RowList.search_gathered.Goals as goal

@@ -5,7 +5,7 @@ use Rattle.std.proofs.lemmas.Grind.{common_steps}
 use Rattle.overlay_sweep.specs.EntryOf.{entry_of}
 use Rattle.overlay_sweep.specs.LiveOf.{row_sums, rows_in}
 use Rattle.overlay_sweep.specs.LivePositions.{IsLivePosition}
-use Rattle.overlay_sweep.specs.ScanTrees.{joined, row_at, index_in, lasts_past, segment_at}
+use Rattle.overlay_sweep.specs.LiveRows.{joined, row_at, index_in, lasts_past, segment_at}
 use Rattle.overlay_sweep.specs.steps.PlaceOf.{stands_before}
 use Rattle.overlay_sweep.specs.steps.Rows.{KeepsLasting}
 use Rattle.overlay_sweep.proofs.laws.list.Rows.{keeps_set, row_read, base_last, only_position}

@@ -5,7 +5,7 @@ use Rattle.overlay_geometry.specs.Points.{point_eq}
 use Rattle.overlay_geometry.specs.PointOf.{point_of}
 use Rattle.overlay_sweep.specs.EntryOf.{entry_of}
 use Rattle.overlay_sweep.specs.LiveOf.{row_sums, rows_in}
-use Rattle.overlay_sweep.specs.ScanTrees.{row_at, lasts_past, segment_at}
+use Rattle.overlay_sweep.specs.LiveRows.{row_at, lasts_past, segment_at}
 use Rattle.overlay_sweep.specs.steps.Positions.{IsElsewhere}
 use Rattle.overlay_sweep.proofs.laws.live.ScanSums.{lasting}
 use Rattle.overlay_sweep.proofs.laws.list.Rows.{row_read, whole_elsewhere}

@@ -2,7 +2,7 @@ use Rattle.std.proofs.Common.{◌≡◌, ◌∙◌, ◌<◌, ap, sym, arith, len
 use Rattle.overlay_base.specs.Segments.{WholeSegment}
 use Rattle.overlay_sweep.specs.EntryOf.{entry_of}
 use Rattle.overlay_sweep.proofs.laws.live.ScanSums.{lasting}
-use Rattle.overlay_sweep.proofs.laws.tree.ScanReads.{segment_read}
+use Rattle.overlay_sweep.proofs.laws.list.RowReads.{segment_read}
 use Rattle.overlay_sweep.proofs.build.scan_row.ScanRow.after_one_ended.Goals as goal
 
 pub returns-then-not-lasts_past-clause-ended : goal.returns-then-not-lasts_past-clause-ended

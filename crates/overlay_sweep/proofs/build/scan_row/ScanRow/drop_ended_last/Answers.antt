@@ -4,10 +4,10 @@ use Rattle.std.specs.List.{take-map}
 use Rattle.std.proofs.lemmas.List.{length-map, length-take}
 use Rattle.overlay_base.specs.Segments.{WholeSegment}
 use Rattle.overlay_sweep.specs.EntryOf.{entry_of, entries_of}
-use Rattle.overlay_sweep.specs.ScanTrees.{lasts_past}
+use Rattle.overlay_sweep.specs.LiveRows.{lasts_past}
 use Rattle.overlay_sweep.specs.steps.Rows.{KeepsLasting}
 use Rattle.overlay_sweep.proofs.laws.live.ScanSums.{lasting}
-use Rattle.overlay_sweep.proofs.laws.tree.ScanReads.{segment_read}
+use Rattle.overlay_sweep.proofs.laws.list.RowReads.{segment_read}
 use Rattle.overlay_sweep.proofs.laws.list.Rows.{trimmed, trimmed_last, ended_down}
 use Rattle.overlay_sweep.proofs.build.scan_row.ScanRow.drop_ended_last.Goals as goal
 use Rattle.overlay_sweep.proofs.build.scan_row.ScanRow.drop_ended_last.Goals.{then-loop-left-test+else-not-lasts_past, else-loop-left-test}

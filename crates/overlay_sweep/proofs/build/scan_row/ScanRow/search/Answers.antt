@@ -5,7 +5,7 @@ use Rattle.overlay_base.specs.Segments.{WholeSegment}
 use Rattle.overlay_sweep.specs.EntryOf.{entry_of, entries_of}
 use Rattle.overlay_sweep.specs.steps.PlaceOf.{stands_before}
 use Rattle.overlay_sweep.proofs.laws.live.ScanSums.{lasting}
-use Rattle.overlay_sweep.proofs.laws.tree.ScanReads.{segment_read}
+use Rattle.overlay_sweep.proofs.laws.list.RowReads.{segment_read}
 use Rattle.overlay_sweep.proofs.laws.list.Halves.{IsHalving, halving_within, halving_begins, halving_up, halving_down, halving_past, ended_from, halving_without, halving_ends, counting_begins, counts_one, counting_without, counting_half}
 use Rattle.overlay_sweep.proofs.laws.list.LastingRows.{lasting_of, without_ended, all_without, entries_without}
 use Rattle.overlay_sweep.proofs.build.scan_row.ScanRow.search.Goals as goal

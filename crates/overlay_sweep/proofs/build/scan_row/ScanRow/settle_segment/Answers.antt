@@ -9,7 +9,7 @@ use Rattle.overlay_geometry.specs.Points.{point_eq}
 use Rattle.overlay_geometry.proofs.laws.geometry.Points.{same_by_eq}
 use Rattle.overlay_sweep.specs.EntryOf.{entry_of, entries_of}
 use Rattle.overlay_sweep.proofs.laws.live.StartPoints.{point_eq_is}
-use Rattle.overlay_sweep.proofs.laws.tree.ScanReads.{segment_read}
+use Rattle.overlay_sweep.proofs.laws.list.RowReads.{segment_read}
 use Rattle.overlay_sweep.proofs.laws.visits.LookCosts.{search_pays}
 use Rattle.overlay_sweep.proofs.laws.list.Cursors.{by_cursor, cursor_at, next_at_last, below_lasts, few_most}
 use Rattle.overlay_sweep.proofs.build.scan_row.ScanRow.settle_segment.Goals as goal

@@ -5,7 +5,7 @@ use Rattle.overlay_geometry.specs.PointOf.{point_of}
 use Rattle.overlay_sweep.specs.EntryOf.{entry_of}
 use Rattle.overlay_sweep.proofs.laws.live.ScanSums.{lasting}
 use Rattle.overlay_sweep.proofs.laws.live.StartPoints.{point_eq_is}
-use Rattle.overlay_sweep.proofs.laws.tree.ScanReads.{segment_read}
+use Rattle.overlay_sweep.proofs.laws.list.RowReads.{segment_read}
 use Rattle.overlay_sweep.proofs.laws.list.Cursors.{ended_more, next_elsewhere, none_elsewhere}
 use Rattle.overlay_sweep.proofs.build.scan_row.ScanRow.starts_behind.Goals as goal
 

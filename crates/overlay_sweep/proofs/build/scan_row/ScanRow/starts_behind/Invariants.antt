@@ -1,7 +1,7 @@
 use Rattle.std.proofs.Common.{◌≡◌, ℕ, ◌<◌, ◌≤◌}
 use Rattle.std.specs.Prelude.{false}
 use Rattle.overlay_sweep.specs.EntryOf.{entries_of}
-use Rattle.overlay_sweep.specs.ScanTrees.{lasts_past}
+use Rattle.overlay_sweep.specs.LiveRows.{lasts_past}
 use Rattle.overlay_sweep.proofs.build.scan_row.ScanRow.starts_behind.Given as goal
 
 abbrev pub invariant-loop-at : goal.invariant-loop-at

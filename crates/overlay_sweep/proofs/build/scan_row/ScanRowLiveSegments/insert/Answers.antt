@@ -3,7 +3,7 @@ use Rattle.std.specs.Prelude.{suc, ◌∷◌}
 use Rattle.std.proofs.lemmas.List.{length-map}
 use Rattle.overlay_sweep.specs.EntryOf.{entry_of, entries_of, summed}
 use Rattle.overlay_sweep.specs.Live.{HoldSameFrom}
-use Rattle.overlay_sweep.specs.ScanTrees.{lasts_past, segment_at, is_below_or_from, IsScanRow}
+use Rattle.overlay_sweep.specs.LiveRows.{lasts_past, segment_at, is_below_or_from, IsScanRow}
 use Rattle.overlay_sweep.specs.LivePositions.{IsLivePosition}
 use Rattle.overlay_geometry.specs.Points.{Point}
 use Rattle.overlay_sweep.proofs.laws.list.ListAnswers.{row_later}

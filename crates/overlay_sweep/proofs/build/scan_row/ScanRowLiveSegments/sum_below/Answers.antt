@@ -5,7 +5,7 @@ use Rattle.std.proofs.lemmas.List.{length-map}
 use Rattle.overlay_geometry.specs.PointOf.{point_of}
 use Rattle.overlay_base.specs.Segments.{WholeSegment}
 use Rattle.overlay_sweep.specs.EntryOf.{entry_of, entries_of}
-use Rattle.overlay_sweep.proofs.laws.tree.ScanReads.{segment_read}
+use Rattle.overlay_sweep.proofs.laws.list.RowReads.{segment_read}
 use Rattle.overlay_sweep.proofs.laws.list.ListAnswers.{row_later}
 use Rattle.overlay_sweep.proofs.laws.list.Cursors.{found_cursor, cursor_row}
 use Rattle.overlay_sweep.proofs.laws.list.LastingRows.{same_sums, row_left, none_found, one_found}

@@ -8,7 +8,7 @@ use Rattle.overlay_geometry.specs.Points.{point_eq}
 use Rattle.overlay_geometry.proofs.laws.geometry.Points.{same_by_eq}
 use Rattle.overlay_sweep.specs.EntryOf.{entry_of}
 use Rattle.overlay_sweep.specs.LiveOf.{rows_in}
-use Rattle.overlay_sweep.specs.ScanTrees.{joined, index_in}
+use Rattle.overlay_sweep.specs.LiveRows.{joined, index_in}
 use Rattle.overlay_sweep.proofs.laws.live.StartPoints.{point_eq_is}
 use Rattle.overlay_sweep.proofs.laws.list.Cursors.{by_cursor, cursor_at}
 use Rattle.overlay_sweep.proofs.laws.list.Rows.{index_most}

@@ -6,7 +6,7 @@ use Rattle.overlay_sweep.specs.EntryOf.{entry_of}
 use Rattle.overlay_sweep.specs.Live.{HoldSameFrom}
 use Rattle.overlay_sweep.specs.LiveOf.{rows_in, rows_sums}
 use Rattle.overlay_sweep.specs.LivePositions.{IsLivePosition}
-use Rattle.overlay_sweep.specs.ScanTrees.{joined, index_in, lasts_past, segment_at, is_below_or_from, IsScanRow}
+use Rattle.overlay_sweep.specs.LiveRows.{joined, index_in, lasts_past, segment_at, is_below_or_from, IsScanRow}
 use Rattle.overlay_sweep.proofs.laws.list.ListAnswers.{row_later}
 use Rattle.overlay_sweep.proofs.laws.list.LastingRows.{put_sums, put_row, over_sums, over_row, put_longer}
 use Rattle.overlay_sweep.proofs.laws.list.Cursors.{cursor_row, cursor_put, cursor_over}

@@ -3,7 +3,7 @@ use Rattle.std.proofs.lemmas.Bool.{not-true}
 use Rattle.overlay_base.specs.Segments.{WholeSegment}
 use Rattle.overlay_geometry.specs.PointOf.{point_of}
 use Rattle.overlay_sweep.specs.LiveOf.{rows_in, rows_sums}
-use Rattle.overlay_sweep.specs.ScanTrees.{joined, index_in}
+use Rattle.overlay_sweep.specs.LiveRows.{joined, index_in}
 use Rattle.overlay_sweep.proofs.laws.list.ListAnswers.{row_later}
 use Rattle.overlay_sweep.proofs.laws.list.Cursors.{found_cursor, cursor_row}
 use Rattle.overlay_sweep.proofs.laws.list.LastingRows.{same_sums, row_left, none_found, one_found}

@@ -1,4 +1,0 @@
-use Rattle.overlay_build.proofs.build.clip_filter.is_clip_outside_boundary_included.Goals as goal
-
-pub returns : goal.returns
-returns c = c.is_included.ensures

@@ -1,4 +1,0 @@
-use Rattle.overlay_build.proofs.build.filter.is_subject.Goals as goal
-
-pub returns : goal.returns
-returns c = c.is_included.ensures

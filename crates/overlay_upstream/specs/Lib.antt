@@ -1,0 +1,5 @@
+pub mod LiveOf
+pub mod ScanTrees
+pub mod SearchCosts
+pub mod TreeShapes
+pub mod VisitStates
