@@ -18,7 +18,7 @@ use overlay_snapping::snap::solver::SnapSolver;
 use overlay_split::split::solver::SplitSolver;
 use std::alloc::Global;
 
-/// Splits lists of segments by the rounding that it was made for: by snap rounding, as `SnapSolver` does, or by passes over
+/// Splits lists of segments by the rounding that it is set to: by snap rounding, as `SnapSolver` does, or by passes over
 /// pairs, as `SplitSolver` does.
 #[derive(Drop)]
 pub struct Splitter<I: OverlayInt> {
@@ -62,7 +62,18 @@ impl<I: OverlayInt> Splitter<I> {
         }
     }
 
-    /// The rounding that it was made for.
+    /// Splits by that rounding from now on. What it reports of the last call stays.
+    pub fn set_rounding(&mut self, rounding: Rounding)
+        ensures rounding { rounding_in self.new ≡ rounding }
+        ensures limit { snap_limit_in self.new ≡ snap_limit_in self.old }
+        ensures passes { passes_in self.new ≡ passes_in self.old }
+        ensures reach { reach_in self.new ≡ reach_in self.old }
+        ensures looked { looked_in self.new ≡ looked_in self.old }
+    {
+        self.rounding = rounding;
+    }
+
+    /// The rounding by which it splits.
     pub fn rounding(&self) -> Rounding
         ensures { result ≡ rounding_in self.now }
     {
