@@ -129,9 +129,9 @@ pub record KeepsData {I : Type 0} {w : _} {o : _} {e : _} {p : _} (settings : Se
   pub links : List TaggedLink
   pub same_links : map (λ l. l.link) links ≡ kept_links core
   pub same_data : map (λ l. l.tag) links ≡ core.link_data.items
-  -- it is what the split makes of the given data, of those segments that the rule keeps
+  -- it is what the split makes of the given data, if it leaves any, of those segments that the rule keeps
   pub arrangement : List (DataSegment Tag)
-  pub split_data : IsDataOf (core_splitting settings core) (passes_in core.splitter) given arrangement
+  pub split_data : (arrangement ≡ []) ⊎ IsDataOf (core_splitting settings core) (passes_in core.splitter) given arrangement
   pub edge_data : core.link_data.items ≡ data_by (keeps_fill (holds rule)) (fill_rule_of settings.fill_rule) arrangement
   -- what holds of all given data holds of it, so each link has that of a given segment
   pub kept_data : (has : Tag → Bool) → IsTrue (list_all (λ s. has s.edge_data) given) → IsTrue (list_all has core.link_data.items)
