@@ -70,7 +70,8 @@ impl<I: OverlayInt> Splitter<I> {
         ensures reach { reach_in self.new ≡ reach_in self.old }
         ensures looked { looked_in self.new ≡ looked_in self.old }
     {
-        self.rounding = rounding;
+        let kept = &mut self.rounding;
+        *kept = rounding;
     }
 
     /// The rounding by which it splits.

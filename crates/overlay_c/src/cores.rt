@@ -138,7 +138,9 @@ impl<I: Width> Core<I> {
         self.splitter.set_rounding(rounding(settings.rounding));
         let (splitter, builder) = (&mut self.splitter, &mut self.builder);
         let segments = &mut self.segments;
-        let graph = split_and_build_overlay_by(splitter, builder, segments, &solver, fill_rule, rule)?;
+        let graph = split_and_build_overlay_by(
+            splitter, builder, segments, &solver, fill_rule, rule,
+        )?;
         keep_links(graph.links(), &mut self.links)?;
         keep_nodes(
             graph.nodes(),
