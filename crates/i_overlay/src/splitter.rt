@@ -115,6 +115,10 @@ impl<I: OverlayInt> Splitter<I> {
     /// stays as it is, with its data. The solver's strategy does not change the result, and its precision only that of
     /// passes over pairs.
     ///
+    /// Each segment lies as near to every given one that its data names as the split moves things, where data names given
+    /// segments and the hooks name no others. Where of two that merge the hooks take the data of a line, each segment along
+    /// which a line runs has the data of a line (`line_data`).
+    ///
     /// Returns `Fault::CountOutOfRange` only where a running sum of counts on one pair of ends leaves
     /// `-i32::MAX..=i32::MAX`, and, memory being found, wherever one does; `Fault::Memory` where a growth is refused. Where
     /// a call is refused the list is empty, `passes` and `reach` are as they were, and the splitter can be used again.

@@ -72,11 +72,11 @@ module _ (s t : Splitting) (passes halves : ℕ) (es : s ≡ t) where
   pub same_change : (xs ys : List WholeSegment) (flag : Bool) → xs ≡ ys → TellsChangeBy s xs passes flag → TellsChangeBy t ys passes flag
   same_change xs ys flag ex o = subst (λ u. TellsChangeBy u ys passes flag) es (subst (λ u. TellsChangeBy s u passes flag) ex o)
 
-  pub same_refusal : (before : ℕ) (xs ys segments now : List WholeSegment) (fault : Fault) → xs ≡ ys → segments ≡ now
-      → IsRefusedBy (course_with s passes halves) before xs segments fault → IsRefusedBy (course_with t passes halves) before ys now fault
-  same_refusal before xs ys segments now fault ex en o =
-      subst (λ u. IsRefusedBy (course_with u passes halves) before ys now fault) es (subst (λ u. IsRefusedBy (course_with s passes halves) before u now fault) ex
-      (subst (λ u. IsRefusedBy (course_with s passes halves) before xs u fault) en o))
+  pub same_refusal : (before earlier : ℕ) (xs ys segments now : List WholeSegment) (fault : Fault) → before ≡ earlier → xs ≡ ys → segments ≡ now
+      → IsRefusedBy (course_with s passes halves) before xs segments fault → IsRefusedBy (course_with t passes halves) earlier ys now fault
+  same_refusal before earlier xs ys segments now fault eb ex en o =
+      subst (λ u. IsRefusedBy (course_with u passes halves) earlier ys now fault) es (subst (λ u. IsRefusedBy (course_with s passes halves) u ys now fault) eb
+      (subst (λ u. IsRefusedBy (course_with s passes halves) before u now fault) ex (subst (λ u. IsRefusedBy (course_with s passes halves) before xs u fault) en o)))
 
 pub same_region : (halves : ℕ) (r : OverlayRule) (f g : FillRule) (xs ys : List WholeSegment) (graph : Graph) → f ≡ g → xs ≡ ys
     → (IsBalanced xs → EnclosesOverlayBeyond halves r f xs graph) → IsBalanced ys → EnclosesOverlayBeyond halves r g ys graph

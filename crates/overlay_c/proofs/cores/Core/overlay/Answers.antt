@@ -1,13 +1,18 @@
-use Rattle.std.proofs.Common.{◌∙◌, ap, refl, subst, map, sym}
+use Rattle.std.proofs.Common.{◌∙◌, ap, refl, inr, subst, map, sym}
 use Rattle.std.proofs.lemmas.Bool.{both_ways}
 use Rattle.overlay_base.specs.Rules.{holds}
 use Rattle.overlay_build.specs.Graph.{Graph}
 use Rattle.overlay_build.specs.GraphOf.{graph_with, link_of}
 use Rattle.overlay_build.specs.NodeIndexes.{indexes_of}
 use Rattle.overlay_build.specs.Walks.{AreClosedWalks}
-use Rattle.overlay_c.proofs.Overlays.{same_settings, same_splitting_by, same_overlay, same_region, same_laid}
+use Rattle.overlay_c.proofs.Overlays.{same_settings, same_splitting_by, same_overlay, same_split, on_err, same_region, same_laid}
 use Rattle.overlay_c.proofs.cores.Core.overlay.Goals.{then-walks, else-walks}
 use Rattle.overlay_c.proofs.cores.Core.overlay.Goals as goal
+
+pub returns-in_err-keep_lists-clause-stands : goal.returns-in_err-keep_lists-clause-stands
+returns-in_err-keep_lists-clause-stands g c =
+    let es = same_splitting_by _ _ _ _ (c.set_rounding.ensures.rounding ∙ c.rounding.ensures) (same_settings g.I.OverlayInt.BITS _ _ _ _ _ _ c.solver-solver.ensures.start c.solver-solver.ensures.progression (sym c.split_and_build_overlay_by.ensures.settings.1)) in
+    on_err c.from_residual-in_err-keep_lists.result (inr (same_split _ _ _ _ es _ _ _ _ c.in_ok-load_splittable.ensures.segments refl c.in_ok-graph.ensures.overlay.split))
 
 pub returns-in_ok-keep_lists-clause-kept : goal.returns-in_ok-keep_lists-clause-kept
 returns-in_ok-keep_lists-clause-kept g c =

@@ -10,5 +10,5 @@ returns-clause-kept g c =
     let ex = c.in_ok-load_splittable.ensures.segments in
     record {
       split = same_split _ _ _ _ same _ _ _ _ ex refl e.split.split;
-      change = same_change _ _ _ _ same _ _ _ ex e.changed;
+      change = same_change _ _ _ 0 same _ _ _ ex e.changed;
     }
