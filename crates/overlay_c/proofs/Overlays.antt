@@ -11,12 +11,11 @@ use Rattle.overlay_split.specs.ExactInput.{is_exact_input}
 use Rattle.overlay_split.specs.Run.{Settings}
 use Rattle.overlay_build.specs.Graph.{Graph}
 use Rattle.overlay_base.specs.Balance.{IsBalanced}
-use Rattle.overlay_base.specs.declared.overlay_core.clip_rule.ClipRule.{ClipRule}
 use Rattle.overlay_base.specs.declared.segm.fault.Fault.{Fault}
 use Rattle.overlay_base.specs.declared.segm.fault.Fault.TheVariants.{CountOutOfRange}
 use Rattle.i_overlay.specs.Courses.{Course}
 use Rattle.i_overlay.specs.FarRegions.{EnclosesOverlayBeyond}
-use Rattle.i_overlay.specs.Headline.{IsSplitBy, IsOverlayBy, IsClipBy, IsRefusedBy}
+use Rattle.i_overlay.specs.Headline.{IsSplitBy, IsOverlayBy, IsRefusedBy}
 use Rattle.i_overlay.specs.SplitLists.{TellsChangeBy}
 use Rattle.i_overlay.specs.SplitterOf.{splitting_by}
 use Rattle.overlay_c.specs.declared.refusal.Refusal.{Refusal}
@@ -28,7 +27,7 @@ use Rattle.overlay_contours.specs.Beyond.{IsOverlayBeyond, IsShapeOverlayBeyond,
 use Rattle.overlay_contours.specs.Polygons.{IsPolygonOverlay, ArePolygonOverlays}
 use Rattle.overlay_contours.specs.ContourSegments.{overlay_segments}
 use Rattle.overlay_contours.specs.Shapes.{IsShapeOverlay}
-use Rattle.overlay_contours.specs.Splittings.{Splitting, by_passes, by_snapping, splitting_for, most_halves, SumsLeaveRange}
+use Rattle.overlay_contours.specs.Splittings.{Splitting, by_passes, by_snapping, splitting_for, most_halves}
 use Rattle.overlay_contours.specs.declared.rounding.Rounding.{Rounding}
 use Rattle.overlay_contours.specs.declared.rounding.Rounding.TheVariants.{HotPixels, Pairwise}
 use Rattle.overlay_c.specs.Contours.{polygon_splitting}
@@ -50,19 +49,13 @@ course_with splitting passes halves = record { splitting = splitting; passes = p
 pub same_splitting_by : (r q : Rounding) (s t : Settings) → r ≡ q → s ≡ t → splitting_by r s ≡ splitting_by q t
 same_splitting_by r q s t er es = λ i. splitting_by (er i) (es i)
 
--- What holds of an overlay, a clip or a refusal holds of it by all that is the same.
+-- What holds of an overlay, a split or a refusal holds of it by all that is the same.
 module _ (s t : Splitting) (passes halves : ℕ) (es : s ≡ t) where
   pub same_overlay : (f g : FillRule) (r : Bool → Bool → Bool) (xs ys segments now : List WholeSegment) (graph : Graph) → f ≡ g → xs ≡ ys → segments ≡ now
       → IsOverlayBy (course_with s passes halves) f r xs segments graph → IsOverlayBy (course_with t passes halves) g r ys now graph
   same_overlay f g r xs ys segments now graph ef ex en o =
       subst (λ u. IsOverlayBy (course_with u passes halves) g r ys now graph) es (subst (λ u. IsOverlayBy (course_with s passes halves) u r ys now graph) ef
       (subst (λ u. IsOverlayBy (course_with s passes halves) f r u now graph) ex (subst (λ u. IsOverlayBy (course_with s passes halves) f r xs u graph) en o)))
-
-  pub same_clip : (f g : FillRule) (r : ClipRule) (xs ys segments : List WholeSegment) (graph : Graph) → f ≡ g → xs ≡ ys
-      → IsClipBy (course_with s passes halves) f r xs segments graph → IsClipBy (course_with t passes halves) g r ys segments graph
-  same_clip f g r xs ys segments graph ef ex o =
-      subst (λ u. IsClipBy (course_with u passes halves) g r ys segments graph) es (subst (λ u. IsClipBy (course_with s passes halves) u r ys segments graph) ef
-      (subst (λ u. IsClipBy (course_with s passes halves) f r u segments graph) ex o))
 
   pub same_split : (xs ys segments now : List WholeSegment) → xs ≡ ys → segments ≡ now → IsSplitBy (course_with s passes halves) xs segments → IsSplitBy (course_with t passes halves) ys now
   same_split xs ys segments now ex en o =
@@ -82,9 +75,6 @@ pub same_region : (halves : ℕ) (r : OverlayRule) (f g : FillRule) (xs ys : Lis
     → (IsBalanced xs → EnclosesOverlayBeyond halves r f xs graph) → IsBalanced ys → EnclosesOverlayBeyond halves r g ys graph
 same_region halves r f g xs ys graph ef ex o =
     subst (λ u. IsBalanced ys → EnclosesOverlayBeyond halves r u ys graph) ef (subst (λ u. IsBalanced u → EnclosesOverlayBeyond halves r f u graph) ex o)
-
-pub same_sums : (s t : Splitting) (xs ys : List WholeSegment) → s ≡ t → xs ≡ ys → SumsLeaveRange s xs → SumsLeaveRange t ys
-same_sums s t xs ys es ex o = subst (λ u. SumsLeaveRange u ys) es (subst (λ u. SumsLeaveRange s u) ex o)
 
 -- a refusal of the call below is passed on
 pub told_refusal : {A : Type 0} (r : Result A Refusal) (fault : Fault) (course : Course) (before : ℕ) (xs segments : List WholeSegment) → IsErrAnd r (λ e. e ≡ Refused fault) → IsRefusedBy course before xs segments fault
