@@ -1,5 +1,8 @@
 //! Segments and lines by snap rounding, which is the default, and by upstream's passes.
 
+mod common;
+
+use common::Random;
 use fadrinzo::{
     ClipRule, DataSegment, FillRule, IntPoint, LineSegment, Overlay, OverlayRule, Rounding, Segment, ShapeType, Solver,
 };
@@ -90,4 +93,27 @@ fn parts_of_a_line_follow_one_another_on_coarse_coordinates() {
     let parts = overlay.clip_lines(&[triangle], &[line], outside, FillRule::NonZero).unwrap();
     let wanted = [[[5, 0], [5, 1]], [[5, 2], [4, 6]]].map(|part| (0, part.map(IntPoint::from).to_vec()));
     assert_eq!(parts, wanted);
+}
+
+/// How far a point lies along a step, times its squared length.
+fn along(step: [IntPoint; 2], at: IntPoint) -> i32 {
+    let [a, b] = step;
+    (at.x - a.x) * (b.x - a.x) + (at.y - a.y) * (b.y - a.y)
+}
+
+/// Triangles and lines on a grid of 8 by 8 points: under upstream's passes a few of their parts lie beside one another.
+#[test]
+fn parts_share_no_more_than_points() {
+    let (mut random, mut overlay, mut several) = (Random(3), Overlay::new().unwrap(), 0);
+    for round in 0..20_000 {
+        let mut point = || IntPoint::new(random.below(8), random.below(8));
+        let (triangle, step) = ([point(), point(), point()], [point(), point()]);
+        let rule = ClipRule { invert: round % 2 == 0, boundary_included: round % 4 < 2 };
+        let parts = overlay.clip_lines(&[triangle], &[step], rule, FillRule::NonZero).unwrap();
+        let places: Vec<i32> = parts.iter().flat_map(|(_, part)| part).map(|&at| along(step, at)).collect();
+        assert!(places.windows(2).all(|two| two[0] <= two[1]), "{parts:?} of {step:?} and {triangle:?}");
+        assert!(parts.iter().all(|(_, part)| part.windows(2).all(|two| along(step, two[0]) < along(step, two[1]))));
+        several += usize::from(parts.len() > 1);
+    }
+    assert!(several > 500, "{several}");
 }
