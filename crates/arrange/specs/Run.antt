@@ -6,7 +6,7 @@ use Rattle.overlay_base.specs.Segments.{WholeSegment}
 use Rattle.overlay_base.specs.Join.{join, has_equal_pairs, join_leaves_range}
 use Rattle.overlay_base.specs.Radius.{exponent_cap}
 use Rattle.overlay_base.specs.declared.overlay_core.solver.Solver.{Solver}
-use Rattle.overlay_split.specs.Run.{Settings as RunSettings}
+use Rattle.overlay_cuts.specs.Run.{Settings as RunSettings}
 use Rattle.overlay_contours.specs.Splittings.{Splitting, IsLeftBy, SumsLeaveRange}
 use Rattle.overlay_contours.specs.declared.rounding.Rounding.{Rounding}
 use Rattle.overlay_contours.specs.declared.rounding.Rounding.TheVariants.{HotPixels, Pairwise}

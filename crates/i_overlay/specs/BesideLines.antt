@@ -4,9 +4,9 @@ use Rattle.overlay_base.specs.Segments.{WholeSegment, pairs}
 use Rattle.overlay_base.specs.Places.{RationalPoint, winding_below}
 use Rattle.overlay_base.specs.declared.overlay_core.clip_rule.ClipRule.{ClipRule}
 use Rattle.overlay_base.specs.declared.overlay_core.fill_rule.FillRule.{FillRule}
-use Rattle.overlay_split.specs.Nearness.{reach_of_run}
-use Rattle.overlay_split.specs.Places.{IsFar, that_wind}
-use Rattle.overlay_split.specs.Run.{Settings}
+use Rattle.overlay_cuts.specs.Nearness.{reach_of_run}
+use Rattle.overlay_cuts.specs.Places.{IsFar, that_wind}
+use Rattle.overlay_cuts.specs.Run.{Settings}
 use Rattle.overlay_build.specs.Beside.{is_on_top_of, is_at_bottom_of}
 use Rattle.overlay_build.specs.Lines.{keeps_between, is_kept_part}
 

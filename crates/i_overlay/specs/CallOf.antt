@@ -14,7 +14,7 @@ use Rattle.overlay_base.specs.declared.overlay_core.overlay_rule.OverlayRule.{Ov
 use Rattle.overlay_base.specs.declared.overlay_core.solver.Solver.{Solver}
 use Rattle.overlay_base.specs.declared.segm.fault.Fault.{Fault}
 use Rattle.overlay_base.specs.declared.segm.segment.Segment.{Segment}
-use Rattle.overlay_split.specs.Laws.{HooksKeep, HooksNameNoOther, NameNear}
+use Rattle.overlay_cuts.specs.Laws.{HooksKeep, HooksNameNoOther, NameNear}
 use Rattle.overlay_split.specs.SettingsOf.{passes_of}
 use Rattle.overlay_split.specs.SplitOf.{settings_over}
 use Rattle.overlay_split.specs.declared.split.solver.SplitSolver.{SplitSolver}

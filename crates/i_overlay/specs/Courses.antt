@@ -1,8 +1,8 @@
 -- How a list is split, by either rounding.
 use Rattle.std.specs.Prelude.{ℕ, List}
 use Rattle.overlay_base.specs.Segments.{WholeSegment}
-use Rattle.overlay_split.specs.Nearness.{reach_of_run}
-use Rattle.overlay_split.specs.Run.{Settings}
+use Rattle.overlay_cuts.specs.Nearness.{reach_of_run}
+use Rattle.overlay_cuts.specs.Run.{Settings}
 use Rattle.overlay_contours.specs.Splittings.{Splitting, by_passes}
 
 -- by which splitting, in how many passes, and by how many halves of a unit these move things at most

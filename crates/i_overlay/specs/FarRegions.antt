@@ -6,9 +6,9 @@ use Rattle.overlay_base.specs.Places.{RationalPoint, winding_below}
 use Rattle.overlay_base.specs.Rules.{differ, holds}
 use Rattle.overlay_base.specs.declared.overlay_core.fill_rule.FillRule.{FillRule}
 use Rattle.overlay_base.specs.declared.overlay_core.overlay_rule.OverlayRule.{OverlayRule}
-use Rattle.overlay_split.specs.Run.{Settings}
-use Rattle.overlay_split.specs.Nearness.{reach_of_run}
-use Rattle.overlay_split.specs.Places.{IsFar}
+use Rattle.overlay_cuts.specs.Run.{Settings}
+use Rattle.overlay_cuts.specs.Nearness.{reach_of_run}
+use Rattle.overlay_cuts.specs.Places.{IsFar}
 use Rattle.overlay_build.specs.Graph.{Graph}
 use Rattle.overlay_build.specs.Values.{value_at, tells_apart}
 use Rattle.overlay_build.specs.Regions.{encloses}

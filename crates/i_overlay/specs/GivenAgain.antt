@@ -6,7 +6,7 @@ use Rattle.overlay_base.specs.Balance.{IsBalanced}
 use Rattle.overlay_base.specs.Places.{RationalPoint, winding_below}
 use Rattle.overlay_base.specs.declared.overlay_core.fill_rule.FillRule.{FillRule}
 use Rattle.overlay_base.specs.declared.segm.shape_type.ShapeType.{ShapeType}
-use Rattle.overlay_split.specs.Places.{IsFar}
+use Rattle.overlay_cuts.specs.Places.{IsFar}
 use Rattle.overlay_build.specs.Graph.{Graph}
 use Rattle.overlay_build.specs.Boundary.{directed_links, times_round}
 use Rattle.overlay_build.specs.ShapedBoundary.{of_shape, in_shape, BoundsAsShape}

@@ -12,10 +12,10 @@ use Rattle.overlay_base.specs.declared.overlay_core.fill_rule.FillRule.{FillRule
 use Rattle.overlay_base.specs.declared.overlay_core.link.OverlayLink.{OverlayLink}
 use Rattle.overlay_base.specs.declared.segm.fault.Fault.{Fault}
 use Rattle.overlay_base.specs.declared.segm.fault.Fault.TheVariants.{CountOutOfRange}
-use Rattle.overlay_split.specs.Run.{Settings}
-use Rattle.overlay_split.specs.ExactInput.{is_exact_input, KeepsCounts}
-use Rattle.overlay_split.specs.Nearness.{Fraction, point_along, LiesNear, LieNear, IsNearSome, IsNearCancelled, LieInGivenBox, with_mask}
-use Rattle.overlay_split.specs.Potential.{IsPassBound}
+use Rattle.overlay_cuts.specs.Run.{Settings}
+use Rattle.overlay_cuts.specs.ExactInput.{is_exact_input, KeepsCounts}
+use Rattle.overlay_cuts.specs.Nearness.{Fraction, point_along, LiesNear, LieNear, IsNearSome, IsNearCancelled, LieInGivenBox, with_mask}
+use Rattle.overlay_cuts.specs.Potential.{IsPassBound}
 use Rattle.overlay_snapping.specs.Counts.{chain_points}
 use Rattle.overlay_snapping.specs.SnapOf.{IsNearCancelledInSnap}
 use Rattle.overlay_sweep.specs.ChainWindings.{tops_leave_range}

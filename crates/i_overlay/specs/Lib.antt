@@ -40,16 +40,16 @@ pub use Rattle.overlay_intersections.specs.PassMarks
 pub use Rattle.overlay_grid.specs.Grid
 pub use Rattle.overlay_grid.specs.GridFor
 pub use Rattle.overlay_grid.specs.GridLooks
-pub use Rattle.overlay_split.specs.DataPass
-pub use Rattle.overlay_split.specs.ExactInput
+pub use Rattle.overlay_cuts.specs.DataPass
+pub use Rattle.overlay_cuts.specs.ExactInput
 pub use Rattle.overlay_split.specs.Laws
-pub use Rattle.overlay_split.specs.Nearness
-pub use Rattle.overlay_split.specs.Pass
-pub use Rattle.overlay_split.specs.PassLooks
-pub use Rattle.overlay_split.specs.Path
-pub use Rattle.overlay_split.specs.Places as FarPlaces
-pub use Rattle.overlay_split.specs.Potential
-pub use Rattle.overlay_split.specs.Run
+pub use Rattle.overlay_cuts.specs.Nearness
+pub use Rattle.overlay_cuts.specs.Pass
+pub use Rattle.overlay_cuts.specs.PassLooks
+pub use Rattle.overlay_cuts.specs.Path
+pub use Rattle.overlay_cuts.specs.Places as FarPlaces
+pub use Rattle.overlay_cuts.specs.Potential
+pub use Rattle.overlay_cuts.specs.Run
 pub use Rattle.overlay_split.specs.RunLengths
 pub use Rattle.overlay_split.specs.RunLooks
 pub use Rattle.overlay_split.specs.SettingsOf

@@ -3,7 +3,7 @@ use Rattle.std.specs.Prelude.{◌≡◌, ◌==◌, Bool, not, ◌&&◌, IsTrue, 
 use Rattle.std.specs.List.{list_any}
 use Rattle.overlay_geometry.specs.Points.{Pair}
 use Rattle.overlay_base.specs.Segments.{WholeSegment}
-use Rattle.overlay_split.specs.ExactInput.{is_elementary, contains_pair}
+use Rattle.overlay_cuts.specs.ExactInput.{is_elementary, contains_pair}
 
 -- whether a line of the list runs along e: a segment with a mask contains it
 unfoldable pub has_line_along : List WholeSegment → Pair → Bool

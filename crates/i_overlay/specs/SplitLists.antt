@@ -9,9 +9,9 @@ use Rattle.overlay_base.specs.SegmentOf.{segments_of, data_segments_of}
 use Rattle.overlay_base.specs.Segments.{WholeSegment}
 use Rattle.overlay_base.specs.declared.overlay_core.edge_data.OverlayEdgeData.{Ghosts}
 use Rattle.overlay_base.specs.declared.segm.segment.Segment.{Segment}
-use Rattle.overlay_split.specs.DataPass.{IsDataAfter}
-use Rattle.overlay_split.specs.Laws.{HooksKeep, HooksNameNoOther, NameNear}
-use Rattle.overlay_split.specs.Run.{has_changed}
+use Rattle.overlay_cuts.specs.DataPass.{IsDataAfter}
+use Rattle.overlay_cuts.specs.Laws.{HooksKeep, HooksNameNoOther, NameNear}
+use Rattle.overlay_cuts.specs.Run.{has_changed}
 use Rattle.overlay_snapping.specs.SnapOf.{HasSnapData, SnapChanges}
 use Rattle.overlay_contours.specs.Splittings.{Splitting, by_passes, by_snapping, SumsLeaveRange}
 use Rattle.i_overlay.specs.Courses.{Course}

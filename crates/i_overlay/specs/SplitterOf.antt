@@ -3,7 +3,7 @@ use Rattle.std.specs.Prelude.{⊤, ◌≡◌, ℕ, Vec}
 use Rattle.std.specs.Global.{Global}
 use Rattle.overlay_base.specs.declared.overlay_core.solver.Solver.{Solver}
 use Rattle.overlay_base.specs.declared.segm.segment.Segment.{Segment}
-use Rattle.overlay_split.specs.Run.{Settings}
+use Rattle.overlay_cuts.specs.Run.{Settings}
 use Rattle.overlay_split.specs.SettingsOf.{settings_of, snap_limit_of, looked_of}
 use Rattle.overlay_split.specs.SplitOf.{LooksAreBounded}
 use Rattle.overlay_split.specs.declared.split.solver.SplitSolver.{SplitSolver}

@@ -2,7 +2,7 @@
 ghost use Rattle.std.specs.Prelude.{◌≡◌, [], OnOk, OnErr, IfOk, IfErr};
 ghost use Rattle.overlay_base.specs.ArrangedOf.{IsSplittable, IsArranged};
 ghost use Rattle.overlay_base.specs.SegmentOf.{segments_of};
-ghost use Rattle.overlay_split.specs.SplitOf.{ChangesNothing};
+ghost use Rattle.overlay_cuts.specs.ResultOf.{ChangesNothing};
 ghost use Rattle.i_overlay.specs.Headline.{IsSplitRefusedBy};
 ghost use Rattle.i_overlay.specs.SplitLists.{SplitsList, TellsChangeBy};
 ghost use Rattle.i_overlay.specs.SplitterOf.{rounding_in, snap_limit_in, passes_in, reach_in, looked_in, splitting_over, course_over, LooksAreFew, IsSetAsBefore};

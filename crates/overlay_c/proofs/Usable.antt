@@ -11,7 +11,7 @@ use Rattle.overlay_base.specs.Windings.{Winding, inverse, swap_directions, is_co
 use Rattle.overlay_base.specs.Segments.{WholeSegment}
 use Rattle.overlay_base.specs.Planar.{is_splittable}
 use Rattle.overlay_base.proofs.laws.joins.Rests.{is_usable, is_splittable-is}
-use Rattle.overlay_split.proofs.laws.paths.PieceCounts.{is_valid-inverse}
+use Rattle.overlay_cuts.proofs.laws.paths.PieceCounts.{is_valid-inverse}
 use Rattle.overlay_c.specs.Records.{piece_of, asks, asked_by, line_asks, line_asked_by}
 use Rattle.overlay_c.specs.declared.records.SegmentRecord.{SegmentRecord}
 use Rattle.overlay_c.specs.declared.records.LineRecord.{LineRecord}

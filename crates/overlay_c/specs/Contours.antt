@@ -7,7 +7,7 @@ use Rattle.overlay_base.specs.declared.overlay_core.overlay_rule.OverlayRule.{Ov
 use Rattle.overlay_base.specs.declared.segm.fault.Fault.TheVariants.{Memory}
 use Rattle.overlay_base.specs.declared.segm.shape_type.ShapeType.{ShapeType}
 use Rattle.overlay_base.specs.declared.segm.shape_type.ShapeType.TheVariants.{Subject, Clip}
-use Rattle.overlay_split.specs.ExactInput.{is_exact_input}
+use Rattle.overlay_cuts.specs.ExactInput.{is_exact_input}
 use Rattle.overlay_contours.specs.Beyond.{IsOverlayBeyond, IsShapeOverlayBeyond, AreOfSplitting}
 use Rattle.overlay_contours.specs.ContourSegments.{overlay_segments}
 use Rattle.overlay_contours.specs.Kept.{subject_of, clip_of, passes_of, reach_of, KeepsReport}

@@ -9,7 +9,7 @@ use Rattle.overlay_base.specs.Segments.{WholeSegment}
 use Rattle.overlay_base.specs.Rules.{differ, holds}
 use Rattle.overlay_base.specs.declared.overlay_core.fill_rule.FillRule.{FillRule}
 use Rattle.overlay_base.specs.declared.overlay_core.overlay_rule.OverlayRule.{OverlayRule}
-use Rattle.overlay_split.specs.Nearness.{LieNear}
+use Rattle.overlay_cuts.specs.Nearness.{LieNear}
 use Rattle.overlay_build.specs.Boundary.{truth}
 use Rattle.overlay_contours.specs.Contours.{AreProper, edges, winding_number, is_painted}
 use Rattle.overlay_contours.specs.ContourSegments.{overlay_segments}

@@ -11,7 +11,7 @@ use Rattle.overlay_base.specs.declared.overlay_core.overlay_rule.OverlayRule.{Ov
 use Rattle.overlay_base.specs.declared.overlay_core.solver.Solver.{Solver}
 use Rattle.overlay_base.specs.declared.segm.fault.Fault.{Fault}
 use Rattle.overlay_base.specs.declared.segm.shape_type.ShapeType.{ShapeType}
-use Rattle.overlay_split.specs.ExactInput.{is_exact_input}
+use Rattle.overlay_cuts.specs.ExactInput.{is_exact_input}
 use Rattle.overlay_contours.specs.ArrangementsOf.{IsArrangementOf}
 use Rattle.overlay_contours.specs.Beyond.{IsOverlayBeyond, IsCornerOverlayBeyond, IsShapeOverlayBeyond, AreOfSplitting}
 use Rattle.overlay_contours.specs.ContourSegments.{overlay_segments}

@@ -3,7 +3,7 @@ use Rattle.std.specs.Prelude.{Bool, if◌then◌else◌, List}
 use Rattle.std.specs.List.{list_any}
 use Rattle.overlay_geometry.specs.Points.{Point, lies_on}
 use Rattle.overlay_base.specs.declared.overlay_core.fill_rule.FillRule.{FillRule}
-use Rattle.overlay_split.specs.Nearness.{whole_point}
+use Rattle.overlay_cuts.specs.Nearness.{whole_point}
 use Rattle.overlay_sweep.specs.Fill.{is_inside}
 use Rattle.overlay_contours.specs.Contours.{steps, winding_number}
 use Rattle.overlay_contours.specs.declared.location.PointLocation.{PointLocation}

@@ -8,9 +8,9 @@ use Rattle.overlay_geometry.specs.Meeting.{are_apart}
 use Rattle.overlay_base.specs.Rules.{differ, holds}
 use Rattle.overlay_base.specs.declared.overlay_core.fill_rule.FillRule.{FillRule}
 use Rattle.overlay_base.specs.declared.overlay_core.overlay_rule.OverlayRule.{OverlayRule}
-use Rattle.overlay_split.specs.ExactInput.{is_exact_input}
-use Rattle.overlay_split.specs.Nearness.{LieNear}
-use Rattle.overlay_split.specs.Places.{IsFar}
+use Rattle.overlay_cuts.specs.ExactInput.{is_exact_input}
+use Rattle.overlay_cuts.specs.Nearness.{LieNear}
+use Rattle.overlay_cuts.specs.Places.{IsFar}
 use Rattle.overlay_sweep.specs.Fill.{is_inside}
 use Rattle.overlay_build.specs.Boundary.{truth, boundary}
 use Rattle.overlay_contours.specs.Contours.{turned, directed_edges, edges, AreProper, winding_number, is_painted}

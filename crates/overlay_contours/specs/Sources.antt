@@ -2,8 +2,8 @@
 use Rattle.std.specs.Prelude.{◌≡◌, ◌≤◌, ℕ, IsTrue, List, Some, Option, option_and_then, slice_get, All}
 use Rattle.overlay_geometry.specs.Points.{Point, Pair}
 use Rattle.overlay_base.specs.EdgeData.{DataSegment}
-use Rattle.overlay_split.specs.ExactInput.{is_exact_input}
-use Rattle.overlay_split.specs.Nearness.{LiesNear}
+use Rattle.overlay_cuts.specs.ExactInput.{is_exact_input}
+use Rattle.overlay_cuts.specs.Nearness.{LiesNear}
 use Rattle.overlay_contours.specs.Contours.{steps_of, in_order}
 use Rattle.overlay_contours.specs.ContourSegments.{overlay_segments}
 use Rattle.overlay_contours.specs.DataContours.{DataStep, data_steps}

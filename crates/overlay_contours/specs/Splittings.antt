@@ -7,10 +7,10 @@ use Rattle.overlay_base.specs.Planar.{is_planar}
 use Rattle.overlay_base.specs.Radius.{exponent_cap}
 use Rattle.overlay_base.specs.Segments.{WholeSegment, pairs, is_map}
 use Rattle.overlay_base.specs.declared.overlay_core.solver.Solver.{Solver}
-use Rattle.overlay_split.specs.ExactInput.{is_exact_input}
-use Rattle.overlay_split.specs.Nearness.{LieNear, reach_of_run, reach_of_passes}
-use Rattle.overlay_split.specs.Places.{IsFar}
-use Rattle.overlay_split.specs.Run.{Settings, IsPassCount, LeavesRange, after_passes}
+use Rattle.overlay_cuts.specs.ExactInput.{is_exact_input}
+use Rattle.overlay_cuts.specs.Nearness.{LieNear, reach_of_run, reach_of_passes}
+use Rattle.overlay_cuts.specs.Places.{IsFar}
+use Rattle.overlay_cuts.specs.Run.{Settings, IsPassCount, LeavesRange, after_passes}
 use Rattle.overlay_snapping.specs.Chains.{IsSnapped}
 use Rattle.overlay_snapping.specs.SnapOf.{reach_of_snap, SnapLeavesRange}
 use Rattle.overlay_contours.specs.declared.rounding.Rounding.{Rounding}

@@ -10,7 +10,7 @@ use Rattle.overlay_base.specs.Segments.{WholeSegment, pairs, ends}
 use Rattle.overlay_base.specs.Join.{join}
 use Rattle.overlay_intersections.specs.Crossing.{is_exact, settling_point}
 use Rattle.overlay_intersections.specs.Marks.{cross_inexactly}
-use Rattle.overlay_split.specs.Path.{pieces_along}
+use Rattle.overlay_cuts.specs.Path.{pieces_along}
 use Rattle.overlay_snapping.specs.Pixels.{meets_pixel}
 
 -- ---- points

@@ -2,9 +2,9 @@
 use Rattle.std.specs.Prelude.{◌≡◌, ◌↔◌, ◌⊎◌, ◌≤◌, ◌*◌, true, if◌then◌else◌, IsTrue, IsFalse, List, Contains, IsPermutation, ◌<◌, length}
 use Rattle.overlay_geometry.specs.Points.{Point, Pair, is_ordered, lies_on}
 use Rattle.overlay_geometry.specs.Meeting.{are_apart}
-use Rattle.overlay_split.specs.Nearness.{Fraction, point_along, LiesNear, LieNear, MarksLieNear}
-use Rattle.overlay_split.specs.Pass.{pass_by, pass}
-use Rattle.overlay_split.specs.Path.{path}
+use Rattle.overlay_cuts.specs.Nearness.{Fraction, point_along, LiesNear, LieNear, MarksLieNear}
+use Rattle.overlay_cuts.specs.Pass.{pass_by, pass}
+use Rattle.overlay_cuts.specs.Path.{path}
 use Rattle.overlay_snapping.specs.Pixels.{IsInPixel, MeetsPixel, meets_pixel}
 use Rattle.overlay_base.specs.Segments.{WholeSegment, pairs, ends, are_ordered, is_map}
 use Rattle.overlay_base.specs.Planar.{is_planar}

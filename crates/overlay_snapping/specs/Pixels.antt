@@ -4,7 +4,7 @@ use Rattle.std.specs.Ordering.{int_eq}
 use Rattle.std.specs.List.{enumerate_from}
 use Rattle.overlay_geometry.specs.Points.{Point, Pair, step, turn, is_in_box}
 use Rattle.overlay_base.specs.Places.{RationalPoint}
-use Rattle.overlay_split.specs.Nearness.{Fraction, point_along}
+use Rattle.overlay_cuts.specs.Nearness.{Fraction, point_along}
 
 -- The pixel of c: the points with c.x - 1/2 <= x < c.x + 1/2, and so in y. They are the points that floor(v + 1/2), in each
 -- coordinate, takes to c.

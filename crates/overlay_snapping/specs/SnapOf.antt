@@ -12,11 +12,11 @@ use Rattle.overlay_base.specs.declared.overlay_core.edge_data.OverlayEdgeData.{G
 use Rattle.overlay_base.specs.declared.segm.fault.Fault.{Fault}
 use Rattle.overlay_base.specs.declared.segm.segment.Segment.{Segment}
 use Rattle.overlay_intersections.specs.PassMarks.{is_rounded}
-use Rattle.overlay_split.specs.DataPass.{data_cut_by, data_pass_by}
-use Rattle.overlay_split.specs.Laws.{HooksNameNoOther, NameNear}
-use Rattle.overlay_split.specs.Nearness.{Fraction, point_along, IsNear, LieNear, IsNearSome, Cancels}
-use Rattle.overlay_split.specs.Pass.{cut_by}
-use Rattle.overlay_split.specs.Places.{IsFar}
+use Rattle.overlay_cuts.specs.DataPass.{data_cut_by, data_pass_by}
+use Rattle.overlay_cuts.specs.Laws.{HooksNameNoOther, NameNear}
+use Rattle.overlay_cuts.specs.Nearness.{Fraction, point_along, IsNear, LieNear, IsNearSome, Cancels}
+use Rattle.overlay_cuts.specs.Pass.{cut_by}
+use Rattle.overlay_cuts.specs.Places.{IsFar}
 use Rattle.overlay_snapping.specs.Counts.{chain_points}
 use Rattle.overlay_snapping.specs.Chains.{IsCutAt, AreSnapCuts, IsSnapped}
 

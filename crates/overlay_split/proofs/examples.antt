@@ -1,12 +1,7 @@
 -- Worked examples of the definitions, which hold by computation; `Sources` is a theorem, which holds of every input.
-pub mod Computing
-pub mod Squares
-pub mod Paths
-pub mod Cuts
 pub mod Runs
 pub mod RunLengths
 pub mod DataPasses
 pub mod Sources
-pub mod ExactInputs
 pub mod Nearness
 pub mod Places

@@ -4,17 +4,14 @@ use Rattle.std.specs.Global.{Global}
 use Rattle.overlay_base.specs.EdgeData.{DataSegment, IsRefusedJoin}
 use Rattle.overlay_base.specs.HooksOf.{hooks_of}
 use Rattle.overlay_base.specs.Join.{join_leaves_range}
-use Rattle.overlay_base.specs.SegmentOf.{segments_of, data_segments_of, pairs_in}
+use Rattle.overlay_base.specs.SegmentOf.{segments_of, data_segments_of}
 use Rattle.overlay_base.specs.declared.overlay_core.edge_data.OverlayEdgeData.{Ghosts}
 use Rattle.overlay_base.specs.declared.segm.segment.Segment.{Segment}
 use Rattle.overlay_intersections.specs.PassMarks.{mark_count}
 use Rattle.overlay_intersections.specs.PlacingOf.{placing_of}
 use Rattle.overlay_intersections.specs.declared.split.placing.Placing.{Placing}
-use Rattle.overlay_split.specs.DataPass.{data_cut, data_pass}
-use Rattle.overlay_split.specs.FinderOf.{solver_in, layout_in, looks_in}
-use Rattle.overlay_split.specs.Pass.{cut}
-use Rattle.overlay_split.specs.PassLooks.{ArePassLooks}
-use Rattle.overlay_split.specs.declared.split.finder.PairFinder.{PairFinder}
+use Rattle.overlay_cuts.specs.DataPass.{data_cut, data_pass}
+use Rattle.overlay_cuts.specs.Pass.{cut}
 
 -- whether the pass makes a mark
 abbrev pub makes_mark : {C I D : Type 0} {m : _} {w : _} {o : _} {e : _} {p : _} → Placing → List (Segment C I D m w o e p) → Bool
@@ -43,7 +40,3 @@ abbrev pub StopsPass : {C I D S : Type 0} {m : _} {w : _} {o : _} {e : _} {p : _
 StopsPass {D = D} {S = S} {m = m} hooks placing given store left =
     let pieces : List (DataSegment D) × S = data_cut (hooks_of m.counted hooks) (placing_of placing) (data_segments_of given.items) store in
     IsRefusedJoin (hooks_of m.counted hooks) pieces.0 pieces.1 left
-
--- The finder has compared what a pass over the list may compare, besides what it had before.
-abbrev pub LooksThrough : {C I D : Type 0} {m : _} {w : _} {o : _} {e : _} {p : _} {w' : _} {o' : _} {e' : _} {p' : _} → List (Segment C I D m w o e p) → PairFinder I w' o' e' p' → PairFinder I w' o' e' p' → Type 0
-LooksThrough list before after = ArePassLooks (solver_in before).strategy (layout_in before) (pairs_in list) (looks_in before) (looks_in after)

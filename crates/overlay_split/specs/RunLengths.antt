@@ -1,8 +1,8 @@
 -- How long the lists are that a run joins, and the run that is stopped where one is longer than a limit.
 use Rattle.std.specs.Prelude.{ℕ, ◌<◌, ◌≤◌, List, length, IsTrue, IsFalse}
 use Rattle.overlay_base.specs.Segments.{WholeSegment}
-use Rattle.overlay_split.specs.Nearness.{joined_in}
-use Rattle.overlay_split.specs.Run.{Settings, goes_on, leaves_range_within}
+use Rattle.overlay_cuts.specs.Nearness.{joined_in}
+use Rattle.overlay_cuts.specs.Run.{Settings, goes_on, leaves_range_within}
 
 -- what a run joins in its first passes, the given segments and the pieces of each of these passes, has at most so many segments each time
 abbrev pub JoinsAtMost : Settings → List WholeSegment → ℕ → ℕ → Type 0

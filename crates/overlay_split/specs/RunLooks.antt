@@ -4,10 +4,10 @@ use Rattle.overlay_base.specs.Segments.{WholeSegment, pairs}
 use Rattle.overlay_base.specs.Join.{join}
 use Rattle.overlay_base.specs.declared.overlay_core.solver.Strategy.{Strategy}
 use Rattle.overlay_base.specs.declared.overlay_core.solver.Strategy.TheVariants.{List as ByList}
-use Rattle.overlay_split.specs.Run.{Settings, after_passes}
+use Rattle.overlay_cuts.specs.Run.{Settings, after_passes}
 use Rattle.overlay_grid.specs.Grid.{Layout}
 use Rattle.overlay_grid.specs.GridFor.{IsGridFor}
-use Rattle.overlay_split.specs.PassLooks.{pass_looks}
+use Rattle.overlay_cuts.specs.PassLooks.{pass_looks}
 
 -- what the first n passes may compare, each over what is left by those before it
 unfoldable pub run_looks : Strategy → Settings → Option Layout → List WholeSegment → ℕ → ℕ

@@ -2,7 +2,7 @@
 use Rattle.std.specs.Prelude.{ℕ}
 use Rattle.overlay_base.specs.Radius.{exponent_cap}
 use Rattle.overlay_base.specs.declared.overlay_core.solver.Solver.{Solver}
-use Rattle.overlay_split.specs.Run.{Settings}
+use Rattle.overlay_cuts.specs.Run.{Settings}
 use Rattle.overlay_split.specs.declared.split.solver.SplitSolver.{SplitSolver}
 
 -- how many passes may snap, and how many the last call made that succeeded

@@ -1,22 +1,20 @@
 -- What a call of the splitter leaves, by its solver, the splitter before and after, and the list before and
 -- after. The type of the list says how its coordinates are read, and of how many bits they are.
-use Rattle.std.specs.Prelude.{◌≡◌, ◌≤◌, ℕ, Bool, false, IsTrue, Option, Result, OnOk, Vec}
-use Rattle.std.specs.List.{list_all}
+use Rattle.std.specs.Prelude.{◌≡◌, ◌≤◌, ℕ, Bool, Option, Result, OnOk, Vec}
 use Rattle.std.specs.Global.{Global}
 use Rattle.overlay_geometry.specs.Points.{Pair}
 use Rattle.overlay_base.specs.HooksOf.{hooks_of}
-use Rattle.overlay_base.specs.SegmentOf.{segments_of, data_segments_of, KeepsSegments}
+use Rattle.overlay_base.specs.SegmentOf.{segments_of, data_segments_of}
 use Rattle.overlay_base.specs.declared.overlay_core.edge_data.OverlayEdgeData.{Ghosts}
 use Rattle.overlay_base.specs.declared.overlay_core.solver.Solver.{Solver}
 use Rattle.overlay_base.specs.declared.segm.segment.Segment.{Segment}
 use Rattle.overlay_grid.specs.Grid.{Layout}
-use Rattle.overlay_split.specs.DataPass.{data_after_passes, data_store_before, IsDataAfter, IsStoppedRun}
-use Rattle.overlay_split.specs.ExactInput.{is_exact_input, KeepsCounts}
-use Rattle.overlay_split.specs.Laws.{HooksKeep, HooksNameNoOther, NameNear}
-use Rattle.overlay_split.specs.Nearness.{StaysNear, LieInGivenBox, reach_of_run, reach_of_passes}
-use Rattle.overlay_split.specs.Places.{KeepsWinding}
-use Rattle.overlay_split.specs.Potential.{IsPassBound}
-use Rattle.overlay_split.specs.Run.{Settings, IsRun, LeavesRange}
+use Rattle.overlay_cuts.specs.DataPass.{data_after_passes, data_store_before, IsDataAfter, IsStoppedRun}
+use Rattle.overlay_cuts.specs.Laws.{HooksNameNoOther, NameNear}
+use Rattle.overlay_cuts.specs.Nearness.{StaysNear, reach_of_run, reach_of_passes}
+use Rattle.overlay_cuts.specs.Places.{KeepsWinding}
+use Rattle.overlay_cuts.specs.Potential.{IsPassBound}
+use Rattle.overlay_cuts.specs.Run.{Settings, IsRun, LeavesRange}
 use Rattle.overlay_split.specs.RunLengths.{JoinsAtMost, IsFirstBeyond}
 use Rattle.overlay_split.specs.RunLooks.{AreRunLooks}
 use Rattle.overlay_split.specs.SettingsOf.{settings_of, passes_of, reach_of, looked_of}
@@ -49,18 +47,6 @@ ReportsReach solver before after given =
     (reach_of after ≡ reach_of_run (settings_over solver before given) (segments_of given.items) (passes_of after))
     × (reach_of after ≤ reach_of_passes (settings_over solver before given) (passes_of after))
 
--- It lies in the box of what is given.
-abbrev pub LiesInBox : {C I D : Type 0} {m : _} {w : _} {o : _} {e : _} {p : _} → Vec (Segment C I D m w o e p) Global → Vec (Segment C I D m w o e p) Global → Type 0
-LiesInBox given list = LieInGivenBox (segments_of given.items) (segments_of list.items)
-
--- No two of the given segments cross at a point that is not exact.
-abbrev pub IsExactInput : {C I D : Type 0} {m : _} {w : _} {o : _} {e : _} {p : _} → Vec (Segment C I D m w o e p) Global → Type 0
-IsExactInput given = IsTrue (is_exact_input (segments_of given.items))
-
--- The list counts along each part of a given segment what is given there.
-abbrev pub HasGivenCounts : {C I D : Type 0} {m : _} {w : _} {o : _} {e : _} {p : _} → Vec (Segment C I D m w o e p) Global → Vec (Segment C I D m w o e p) Global → Type 0
-HasGivenCounts given list = KeepsCounts (segments_of given.items) (segments_of list.items)
-
 -- The run makes no more passes than it may.
 abbrev pub PassesAreBounded : {C I D : Type 0} {m : _} {w : _} {o : _} {e : _} {p : _} → Solver → SplitSolver I → SplitSolver I → Vec (Segment C I D m w o e p) Global → Type 0
 PassesAreBounded solver before after given = IsPassBound (settings_over solver before given) (segments_of given.items) (passes_of after)
@@ -81,14 +67,6 @@ StaysWithin solver before after limit given = JoinsAtMost (settings_over solver 
 -- Some pass of the run, or the join before them, is the first that would.
 abbrev pub GoesBeyond : {C I D : Type 0} {m : _} {w : _} {o : _} {e : _} {p : _} → Solver → SplitSolver I → ℕ → Vec (Segment C I D m w o e p) Global → Type 0
 GoesBeyond solver before limit given = (k : ℕ) × IsFirstBeyond (settings_over solver before given) (segments_of given.items) limit k
-
--- The list is as it was, and the flag says that no segment was joined or split.
-abbrev pub ChangesNothing : {C I D : Type 0} {m : _} {w : _} {o : _} {e : _} {p : _} → Vec (Segment C I D m w o e p) Global → Vec (Segment C I D m w o e p) Global → Bool → Type 0
-ChangesNothing given list flag = (flag ≡ false) × KeepsSegments given list
-
--- So is the store.
-abbrev pub ChangesNoStore : {C I D S : Type 0} {m : _} {w : _} {o : _} {e : _} {p : _} → Vec (Segment C I D m w o e p) Global → Vec (Segment C I D m w o e p) Global → S → S → Bool → Type 0
-ChangesNoStore given list store left flag = (flag ≡ false) × KeepsSegments given list × (left ≡ store)
 
 -- ---- the data
 
@@ -117,12 +95,6 @@ abbrev pub LeavesStoreBefore : {C I D S : Type 0} {m : _} {w : _} {o : _} {e : _
 LeavesStoreBefore {m = m} hooks solver before limit given store left =
     (k : ℕ) × IsFirstBeyond (settings_over solver before given) (segments_of given.items) limit k
     × (left ≡ data_store_before (hooks_of m.counted hooks) (settings_over solver before given) (data_segments_of given.items) store k)
-
--- Whatever the hooks keep, and all given data has: if the call succeeds, all data of the list has it.
-abbrev pub KeepsWhatHolds : {C I D S O E : Type 0} {m : _} {w : _} {o : _} {e : _} {p : _} → Ghosts D C S → Vec (Segment C I D m w o e p) Global → Vec (Segment C I D m w o e p) Global → Result O E → Type 0
-KeepsWhatHolds {D = D} {m = m} hooks given list result =
-    (has : D → Bool) → HooksKeep (hooks_of m.counted hooks) has → IsTrue (list_all (λ s. has s.edge_data) (data_segments_of given.items)) →
-    OnOk result (IsTrue (list_all (λ s. has s.edge_data) (data_segments_of list.items)))
 
 -- Where each given segment lies on what its data names, and the hooks name no others: if the call succeeds, each
 -- segment of the list lies as near to all that its data names as the passes reach.

@@ -1,6 +1,3 @@
 -- What only contracts of private functions use. No public contract speaks of it, so nobody has to believe it.
-pub mod PathSteps
-pub mod DataCutAt
 pub mod IsAt
-pub mod PiecesOf
 pub mod ChangedBoxes

@@ -2,7 +2,7 @@
 ghost use Rattle.std.specs.Prelude.{◌≡◌, ◌+◌, ◌&&◌, [], false, Ok, All, Option};
 ghost use Rattle.overlay_base.specs.declared.segm.fault.Fault.TheVariants.{CountOutOfRange};
 ghost use Rattle.overlay_base.specs.Segments.{pairs, ends};
-ghost use Rattle.overlay_split.specs.Pass.{pass};
+ghost use Rattle.overlay_cuts.specs.Pass.{pass};
 
 use overlay_base::overlay_core::edge_data::{EdgeDataMerge, EdgeDataSplit, OverlayEdgeData};
 use overlay_base::overlay_core::solver::{Precision, Solver, Strategy};

@@ -6,9 +6,9 @@ use Rattle.overlay_base.specs.Join.{join}
 use Rattle.overlay_base.specs.Places.{RationalPoint, winding_below}
 use Rattle.overlay_base.specs.Segments.{WholeSegment, pairs, are_ordered}
 use Rattle.overlay_base.specs.Sums.{gathered}
-use Rattle.overlay_split.specs.Nearness.{IsNear, LiesNear}
-use Rattle.overlay_split.specs.Pass.{pass_by}
-use Rattle.overlay_split.specs.Places.{IsFar}
+use Rattle.overlay_cuts.specs.Nearness.{IsNear, LiesNear}
+use Rattle.overlay_cuts.specs.Pass.{pass_by}
+use Rattle.overlay_cuts.specs.Places.{IsFar}
 use Rattle.overlay_snapping.specs.Chains.{AreSnapCuts, AreDecided}
 use Rattle.overlay_snapping.specs.SnapOf.{reach_of_snap}
 use Rattle.overlay_contours.specs.Contours.{steps_from, steps, turned, step_winding, winding_number}

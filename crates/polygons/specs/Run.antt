@@ -18,7 +18,7 @@ use Rattle.overlay_contours.specs.Shapes.{IsShapeOverlay}
 use Rattle.overlay_contours.specs.Splittings.{Splitting, by_passes, by_snapping}
 use Rattle.overlay_contours.specs.declared.rounding.Rounding.{Rounding}
 use Rattle.overlay_contours.specs.declared.rounding.Rounding.TheVariants.{HotPixels, Pairwise}
-use Rattle.overlay_split.specs.Run.{Settings as RunSettings}
+use Rattle.overlay_cuts.specs.Run.{Settings as RunSettings}
 use Rattle.overlay_text.specs.declared.settings.Settings.{Settings}
 use Rattle.overlay_text.specs.declared.stop.LineFault.{LineFault}
 use Rattle.overlay_text.specs.declared.stop.Stop.{Stop}

@@ -8,7 +8,7 @@ use Rattle.std.proofs.lemmas.Nat.{le_or_l}
 use Rattle.overlay_geometry.specs.Points.{Pair}
 use Rattle.overlay_base.specs.Windings.{Winding, total}
 use Rattle.overlay_base.specs.Segments.{WholeSegment, counts}
-use Rattle.overlay_split.specs.ExactInput.{contains_pair, count_along, KeepsCounts}
+use Rattle.overlay_cuts.specs.ExactInput.{contains_pair, count_along, KeepsCounts}
 use Rattle.i_overlay.specs.LinesAlong.{has_line_along, KeepsLines}
 
 -- masks that are joined are there where one of them is

@@ -6,8 +6,8 @@ use Rattle.overlay_geometry.specs.Points.{Pair}
 use Rattle.overlay_base.specs.EdgeData.{DataSegment, without_data}
 use Rattle.overlay_base.specs.declared.overlay_core.fill_rule.FillRule.{FillRule}
 use Rattle.overlay_base.specs.declared.overlay_core.link.OverlayLink.{OverlayLink}
-use Rattle.overlay_split.specs.Laws.{NameNear}
-use Rattle.overlay_split.specs.Nearness.{LiesNear}
+use Rattle.overlay_cuts.specs.Laws.{NameNear}
+use Rattle.overlay_cuts.specs.Nearness.{LiesNear}
 use Rattle.overlay_build.specs.Graph.{graph_by, data_by}
 use Rattle.overlay_build.specs.GraphOf.{link_of, HoldGraph}
 use Rattle.overlay_contours.proofs.laws.NamedLinks.{held_of_links}

@@ -8,7 +8,7 @@ use Rattle.overlay_geometry.proofs.laws.lists.Elements.{Contains-from_Has, Has-f
 use Rattle.overlay_geometry.proofs.laws.lists.Keys.{AllByRecursion-distinct_in_order, Has-distinct_in_order, IsStrictlySortedBy-distinct, is_strictly_sorted-from}
 use Rattle.overlay_geometry.proofs.laws.lists.Lists.{Has, AllByRecursion-at, AllByRecursion-from_Has, Has-append_left, Has-filter, Has-filter_out, Has-flat_map}
 use Rattle.overlay_base.specs.Segments.{WholeSegment, pairs, ends, are_ordered}
-use Rattle.overlay_split.specs.Pass.{pass_by}
+use Rattle.overlay_cuts.specs.Pass.{pass_by}
 use Rattle.overlay_snapping.specs.Chains.{whole_crossings, given_points, Moves, IsChainPoint, IsCutAt, moving, staying, IsChain, AreSnapCuts, AreDecided, AreChains, IsSnapped}
 use Rattle.overlay_snapping.proofs.laws.chains.MarkPixels.{ordered}
 use Rattle.overlay_snapping.proofs.laws.chains.Paths.{on_meets, snapped_is_one}

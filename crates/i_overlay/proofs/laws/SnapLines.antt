@@ -15,15 +15,16 @@ use Rattle.overlay_base.specs.Segments.{WholeSegment, pairs, are_ordered}
 use Rattle.overlay_base.specs.Windings.{Winding, add, empty, inverse}
 use Rattle.overlay_base.proofs.laws.joins.Maps.{are_ordered-join}
 use Rattle.overlay_base.proofs.laws.joins.Members.{counts-join}
-use Rattle.overlay_split.specs.Nearness.{Fraction, point_along, LieNear, IsNearSome, reach_of_run, with_mask}
-use Rattle.overlay_split.specs.Places.{IsFar, winds, that_wind}
-use Rattle.overlay_split.specs.Run.{Settings, after_passes}
-use Rattle.overlay_split.proofs.laws.nearness.Distances.{IsNear-from_point}
+use Rattle.overlay_cuts.specs.Nearness.{Fraction, point_along, LieNear, IsNearSome, reach_of_run, with_mask}
+use Rattle.overlay_cuts.specs.Places.{IsFar, winds, that_wind}
+use Rattle.overlay_cuts.specs.Run.{Settings, after_passes}
+use Rattle.overlay_cuts.proofs.laws.nearness.Distances.{IsNear-from_point}
 use Rattle.overlay_split.proofs.laws.nearness.NearKinds.{run_of_kind}
 use Rattle.overlay_split.proofs.laws.nearness.NearLines.{cut_keeps_winding_near_lines}
 use Rattle.overlay_split.proofs.laws.nearness.NearMasks.{cut_keeps_lines, run_keeps_lines}
 use Rattle.overlay_split.proofs.laws.nearness.Nearness.{LieNear-trans}
-use Rattle.overlay_split.proofs.laws.nearness.Places.{IsFlat, IsFar-result, join_keeps_winding}
+use Rattle.overlay_cuts.proofs.laws.nearness.Places.{IsFlat, join_keeps_winding}
+use Rattle.overlay_split.proofs.laws.nearness.Places.{IsFar-result}
 use Rattle.overlay_snapping.specs.Chains.{IsSnapped}
 use Rattle.overlay_snapping.specs.SnapOf.{reach_of_snap}
 use Rattle.overlay_snapping.proofs.laws.chains.SnapRuns.{near_cuts}

@@ -12,11 +12,11 @@ use Rattle.overlay_base.specs.Join.{join}
 use Rattle.overlay_base.specs.Places.{RationalPoint, winding_below}
 use Rattle.overlay_base.specs.Planar.{is_arranged, is_splittable}
 use Rattle.overlay_base.specs.Balance.{KeepsBalance}
-use Rattle.overlay_split.specs.Run.{Settings, IsRun, after_passes}
-use Rattle.overlay_split.specs.ExactInput.{is_exact_input, KeepsCounts}
-use Rattle.overlay_split.specs.Nearness.{Fraction, point_along, LieNear, IsNearSome, IsNearCancelled, StaysNear, LinesStayNear, reach_of_run, reach_of_passes}
-use Rattle.overlay_split.specs.Places.{IsFar, that_wind, KeepsWinding}
-use Rattle.overlay_split.specs.Potential.{potential}
+use Rattle.overlay_cuts.specs.Run.{Settings, IsRun, after_passes}
+use Rattle.overlay_cuts.specs.ExactInput.{is_exact_input, KeepsCounts}
+use Rattle.overlay_cuts.specs.Nearness.{Fraction, point_along, LieNear, IsNearSome, IsNearCancelled, StaysNear, LinesStayNear, reach_of_run, reach_of_passes}
+use Rattle.overlay_cuts.specs.Places.{IsFar, that_wind, KeepsWinding}
+use Rattle.overlay_cuts.specs.Potential.{potential}
 use Rattle.overlay_split.proofs.laws.nearness.NearLines.{run_keeps_winding_near_lines}
 use Rattle.overlay_split.proofs.laws.nearness.NearMasks.{run_keeps_lines}
 use Rattle.overlay_snapping.specs.Chains.{IsSnapped}

@@ -5,7 +5,7 @@ use Rattle.std.proofs.lemmas.Int.{ints}
 use Rattle.overlay_geometry.specs.Points.{Pair}
 use Rattle.overlay_geometry.proofs.laws.lists.Elements.{Has-from_Contains, Contains-from_Has}
 use Rattle.overlay_geometry.proofs.laws.lists.Lists.{Has}
-use Rattle.overlay_split.specs.Nearness.{IsNear}
+use Rattle.overlay_cuts.specs.Nearness.{IsNear}
 use Rattle.overlay_contours.specs.Polygons.{IsBeyond}
 use Rattle.overlay_contours.specs.Contours.{edges}
 use Rattle.overlay_contours.proofs.examples.Polygons.{point, at_point, square}

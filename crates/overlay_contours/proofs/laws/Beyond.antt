@@ -4,8 +4,8 @@ use Rattle.overlay_geometry.specs.Points.{Point, Pair}
 use Rattle.overlay_base.specs.Places.{RationalPoint}
 use Rattle.overlay_base.specs.declared.overlay_core.fill_rule.FillRule.{FillRule}
 use Rattle.overlay_base.specs.declared.overlay_core.overlay_rule.OverlayRule.{OverlayRule}
-use Rattle.overlay_split.specs.ExactInput.{is_exact_input}
-use Rattle.overlay_split.specs.Nearness.{LieNear}
+use Rattle.overlay_cuts.specs.ExactInput.{is_exact_input}
+use Rattle.overlay_cuts.specs.Nearness.{LieNear}
 use Rattle.overlay_contours.specs.Beyond.{IsOverlayBeyond, IsCornerOverlayBeyond, IsShapeOverlayBeyond, AreOfSplitting}
 use Rattle.overlay_contours.specs.Contours.{edges}
 use Rattle.overlay_contours.specs.ContourSegments.{overlay_segments}

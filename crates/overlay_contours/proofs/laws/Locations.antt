@@ -8,7 +8,7 @@ use Rattle.overlay_geometry.specs.Below.{width}
 use Rattle.overlay_geometry.specs.Points.{Point, Pair, turn, lies_on, is_in_box}
 use Rattle.overlay_geometry.proofs.laws.geometry.Polynomials.{as_D, diffs, D-eq}
 use Rattle.overlay_base.specs.Places.{height_at, runs_below, lies_below}
-use Rattle.overlay_split.specs.Nearness.{whole_point}
+use Rattle.overlay_cuts.specs.Nearness.{whole_point}
 use Rattle.overlay_base.specs.declared.overlay_core.fill_rule.FillRule.{FillRule}
 use Rattle.overlay_sweep.specs.Fill.{is_inside}
 use Rattle.overlay_contours.specs.Contours.{turned, step_winding, steps_from, steps_of, steps, winding_number}

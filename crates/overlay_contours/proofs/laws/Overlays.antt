@@ -36,8 +36,8 @@ use Rattle.overlay_build.specs.DirectedWalks.{arcs, IsFlow}
 use Rattle.overlay_build.specs.DirectedWalks.{turned as turned_link}
 use Rattle.overlay_build.specs.GraphOf.{link_of, kept_of, graph_with}
 use Rattle.overlay_build.proofs.laws.walks.Flows.{flow_from_balance}
-use Rattle.overlay_split.specs.Nearness.{LieNear, LiesNear}
-use Rattle.overlay_split.specs.Places.{IsFar}
+use Rattle.overlay_cuts.specs.Nearness.{LieNear, LiesNear}
+use Rattle.overlay_cuts.specs.Places.{IsFar}
 use Rattle.overlay_sweep.proofs.laws.visits.FillBytes.{inside_none}
 use Rattle.overlay_build.specs.Graph.{Graph, Link, Filled, graph_of, graph_by, filled}
 use Rattle.overlay_build.specs.Regions.{encloses}

@@ -12,9 +12,9 @@ use Rattle.overlay_base.specs.Rules.{top_value}
 use Rattle.overlay_base.specs.Windings.{Winding}
 use Rattle.overlay_base.specs.EdgeData.{DataSegment, Hooks, data_piece}
 use Rattle.overlay_base.specs.declared.overlay_core.link.OverlayLink.{OverlayLink}
-use Rattle.overlay_split.specs.Laws.{NameNear}
-use Rattle.overlay_split.specs.Nearness.{LiesNear}
-use Rattle.overlay_split.proofs.laws.nearness.Distances.{LiesNear-itself}
+use Rattle.overlay_cuts.specs.Laws.{NameNear}
+use Rattle.overlay_cuts.specs.Nearness.{LiesNear}
+use Rattle.overlay_cuts.proofs.laws.nearness.Distances.{LiesNear-itself}
 use Rattle.overlay_build.specs.DirectedWalks.{in_direction, arcs, IsDirectedWalk, AreDirectedWalks}
 use Rattle.overlay_build.specs.GraphOf.{link_of, graph_with}
 use Rattle.overlay_contours.specs.Contours.{steps_of, in_order}

@@ -13,12 +13,12 @@ use Rattle.overlay_base.specs.declared.overlay_core.solver.Solver.{Solver}
 use Rattle.overlay_base.specs.declared.segm.fault.Fault.{Fault}
 use Rattle.overlay_base.specs.declared.segm.fault.Fault.TheVariants.{Memory, CountOutOfRange}
 use Rattle.overlay_intersections.specs.PassMarks.{is_rounded}
-use Rattle.overlay_split.proofs.laws.planar.ExactInputs.{join_not_rounded, exact_means}
+use Rattle.overlay_cuts.proofs.laws.planar.ExactInputs.{join_not_rounded, exact_means}
 use Rattle.overlay_split.proofs.laws.planar.PlanarRuns.{run_is_one}
-use Rattle.overlay_split.specs.ExactInput.{is_exact_input}
-use Rattle.overlay_split.specs.Nearness.{LieNear, StaysNear, reach_of_run, reach_of_passes}
-use Rattle.overlay_split.specs.Places.{IsFar, KeepsWinding}
-use Rattle.overlay_split.specs.Run.{Settings, IsRun, after_passes, has_changed}
+use Rattle.overlay_cuts.specs.ExactInput.{is_exact_input}
+use Rattle.overlay_cuts.specs.Nearness.{LieNear, StaysNear, reach_of_run, reach_of_passes}
+use Rattle.overlay_cuts.specs.Places.{IsFar, KeepsWinding}
+use Rattle.overlay_cuts.specs.Run.{Settings, IsRun, after_passes, has_changed}
 use Rattle.overlay_split.specs.SettingsOf.{snap_limit_of, settings_of}
 use Rattle.overlay_split.specs.declared.split.solver.SplitSolver.{SplitSolver}
 use Rattle.overlay_snapping.proofs.laws.chains.Paths.{snapped_is_one}

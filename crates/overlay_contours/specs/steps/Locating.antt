@@ -3,7 +3,7 @@ use Rattle.std.specs.Prelude.{◌≡◌, ℤ, pos, ◌+ℤ◌, Bool, IsTrue, IsF
 use Rattle.std.specs.List.{list_any}
 use Rattle.overlay_geometry.specs.Points.{Point, Pair, lies_on}
 use Rattle.overlay_base.specs.Sums.{gathered}
-use Rattle.overlay_split.specs.Nearness.{whole_point}
+use Rattle.overlay_cuts.specs.Nearness.{whole_point}
 use Rattle.overlay_contours.specs.Contours.{step_winding}
 
 -- whether p lies on one of the steps

@@ -10,7 +10,7 @@ use Rattle.overlay_geometry.proofs.laws.lists.Lists.{AllByRecursion-at}
 use Rattle.overlay_base.specs.Places.{RationalPoint}
 use Rattle.overlay_base.specs.declared.overlay_core.fill_rule.FillRule.TheVariants.{NonZero}
 use Rattle.overlay_intersections.proofs.examples.Computing.{computing}
-use Rattle.overlay_split.specs.Nearness.{IsNear}
+use Rattle.overlay_cuts.specs.Nearness.{IsNear}
 use Rattle.overlay_contours.specs.Contours.{edges, winding_number}
 use Rattle.overlay_contours.specs.ContourSegments.{contour_segments, overlay_segments}
 use Rattle.overlay_contours.specs.Polygons.{IsBeyond}

@@ -31,11 +31,11 @@ use Rattle.overlay_base.proofs.laws.joins.Functionals.{balance-join}
 use Rattle.overlay_base.proofs.laws.joins.Maps.{is_map-join}
 use Rattle.overlay_base.proofs.laws.joins.Members.{counts-join}
 use Rattle.std.specs.Ordering.{int_eq}
-use Rattle.overlay_split.specs.Nearness.{point_along, IsNear}
-use Rattle.overlay_split.specs.Places.{IsFar}
-use Rattle.overlay_split.proofs.laws.nearness.Places.{join_keeps_winding}
-use Rattle.overlay_split.proofs.laws.planar.ExactInputs.{In-join}
-use Rattle.overlay_split.proofs.laws.planar.PlanarPasses.{is_planar-from}
+use Rattle.overlay_cuts.specs.Nearness.{point_along, IsNear}
+use Rattle.overlay_cuts.specs.Places.{IsFar}
+use Rattle.overlay_cuts.proofs.laws.nearness.Places.{join_keeps_winding}
+use Rattle.overlay_cuts.proofs.laws.planar.ExactInputs.{In-join}
+use Rattle.overlay_cuts.proofs.laws.planar.PlanarPasses.{is_planar-from}
 use Rattle.overlay_sweep.specs.ColumnWindings.{side_bottom, side_top}
 use Rattle.overlay_sweep.proofs.laws.columns.Members.{IsArranged, is_arranged}
 use Rattle.overlay_sweep.proofs.laws.live.Sides.{side_top_is}

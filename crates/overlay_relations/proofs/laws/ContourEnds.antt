@@ -12,7 +12,7 @@ use Rattle.overlay_geometry.proofs.laws.lists.Lists.{Has, Has-map, Has-map_out, 
 use Rattle.overlay_base.specs.Places.{RationalPoint}
 use Rattle.overlay_base.specs.Rays.{place_turn, goes_through}
 use Rattle.overlay_sweep.proofs.laws.columns.ColumnOrder.{is_apart, apart_back, IsApart}
-use Rattle.overlay_split.specs.Nearness.{whole_point}
+use Rattle.overlay_cuts.specs.Nearness.{whole_point}
 use Rattle.overlay_contours.specs.Boxes.{all_points}
 use Rattle.overlay_contours.specs.Contours.{steps_from, steps_of, steps, is_edge, in_order, turned, directed_edges, edges, AreProper}
 use Rattle.overlay_relations.proofs.laws.InsidePlaces.{enlarged, tops, same_of_times, Before-enlarged, IsInside, IsOff, off_others}

@@ -21,9 +21,9 @@ use Rattle.overlay_base.specs.declared.segm.shape_type.ShapeType.{ShapeType}
 use Rattle.overlay_base.specs.declared.segm.shape_type.ShapeType.TheVariants.{Subject, Clip}
 use Rattle.overlay_base.proofs.laws.geometry.Apart.{are_apart_parts, do_cross_back}
 use Rattle.overlay_build.specs.Boundary.{truth}
-use Rattle.overlay_split.specs.Places.{IsFar}
-use Rattle.overlay_split.proofs.laws.nearness.Places.{join_keeps_winding}
-use Rattle.overlay_split.proofs.laws.planar.ExactInputs.{In-join}
+use Rattle.overlay_cuts.specs.Places.{IsFar}
+use Rattle.overlay_cuts.proofs.laws.nearness.Places.{join_keeps_winding}
+use Rattle.overlay_cuts.proofs.laws.planar.ExactInputs.{In-join}
 use Rattle.overlay_sweep.specs.ColumnWindings.{side_bottom, side_top}
 use Rattle.overlay_sweep.proofs.laws.columns.ColumnLines.{point_lt-cases}
 use Rattle.overlay_sweep.proofs.laws.columns.ColumnOrder.{is_apart}

@@ -19,8 +19,8 @@ use Rattle.overlay_base.proofs.laws.joins.Members.{holds-join}
 use Rattle.overlay_intersections.specs.Marks.{cross_inexactly}
 use Rattle.overlay_intersections.specs.Crossing.{is_exact}
 use Rattle.overlay_intersections.specs.PassMarks.{is_rounded}
-use Rattle.overlay_split.specs.Places.{IsFar}
-use Rattle.overlay_split.proofs.laws.planar.PlanarPasses.{is_planar-each}
+use Rattle.overlay_cuts.specs.Places.{IsFar}
+use Rattle.overlay_cuts.proofs.laws.planar.PlanarPasses.{is_planar-each}
 use Rattle.overlay_contours.specs.Contours.{edges}
 use Rattle.overlay_contours.specs.ContourSegments.{contour_segments, overlay_segments}
 use Rattle.overlay_relations.specs.Boundaries.{has_inexact_crossing, IsBoundaryOf}

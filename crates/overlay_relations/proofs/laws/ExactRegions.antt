@@ -24,7 +24,7 @@ use Rattle.overlay_base.proofs.laws.geometry.Pairs.{holds as has_pair}
 use Rattle.overlay_base.proofs.laws.joins.Bags.{winding_at-here, winding_at-other, winding_at-absent}
 use Rattle.overlay_build.specs.Boundary.{truth}
 use Rattle.overlay_sweep.specs.Fill.{is_inside}
-use Rattle.overlay_split.specs.Places.{IsFar}
+use Rattle.overlay_cuts.specs.Places.{IsFar}
 use Rattle.overlay_split.proofs.laws.nearness.Places.{IsFar-result}
 use Rattle.overlay_contours.specs.Beyond.{IsOverlayBeyond}
 use Rattle.overlay_contours.specs.Contours.{steps, steps_of, is_edge, turned, edges, AreProper, winding_number}

@@ -10,7 +10,7 @@ use Rattle.overlay_base.specs.Join.{join}
 use Rattle.overlay_base.specs.Segments.{WholeSegment, pairs}
 use Rattle.overlay_base.specs.declared.segm.shape_type.ShapeType.TheVariants.{Subject}
 use Rattle.overlay_intersections.specs.PassMarks.{is_rounded}
-use Rattle.overlay_split.proofs.laws.planar.ExactInputs.{In-join}
+use Rattle.overlay_cuts.proofs.laws.planar.ExactInputs.{In-join}
 use Rattle.overlay_contours.specs.Contours.{edges}
 use Rattle.overlay_contours.specs.ContourSegments.{contour_segments}
 use Rattle.overlay_relations.specs.Laws.{ResultsCrossExactly}

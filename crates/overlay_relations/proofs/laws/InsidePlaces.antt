@@ -15,7 +15,7 @@ use Rattle.overlay_base.specs.Places.{RationalPoint}
 use Rattle.overlay_base.specs.Rays.{place_turn}
 use Rattle.overlay_base.proofs.laws.geometry.Apart.{Opposite, do_cross_parts, do_cross_from}
 use Rattle.overlay_sweep.proofs.laws.columns.ColumnOrder.{IsApart}
-use Rattle.overlay_split.proofs.laws.planar.Meetings.{crosses_at_inside}
+use Rattle.overlay_cuts.proofs.laws.planar.Meetings.{crosses_at_inside}
 
 -- ---- points, times a number
 

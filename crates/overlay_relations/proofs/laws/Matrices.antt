@@ -22,8 +22,8 @@ use Rattle.overlay_base.specs.declared.overlay_core.fill_rule.FillRule.TheVarian
 use Rattle.overlay_base.specs.declared.overlay_core.overlay_rule.OverlayRule.{OverlayRule}
 use Rattle.overlay_base.specs.declared.overlay_core.overlay_rule.OverlayRule.TheVariants.{Subject, Clip, Intersect, Union, Difference, InverseDifference}
 use Rattle.overlay_build.specs.Boundary.{truth}
-use Rattle.overlay_split.specs.Nearness.{whole_point}
-use Rattle.overlay_split.specs.Places.{IsFar}
+use Rattle.overlay_cuts.specs.Nearness.{whole_point}
+use Rattle.overlay_cuts.specs.Places.{IsFar}
 use Rattle.overlay_sweep.specs.Fill.{is_inside}
 use Rattle.overlay_contours.specs.Beyond.{IsOverlayBeyond}
 use Rattle.overlay_contours.specs.Boxes.{all_points}

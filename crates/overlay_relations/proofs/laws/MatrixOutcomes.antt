@@ -10,7 +10,7 @@ use Rattle.overlay_base.specs.Segments.{WholeSegment, pairs, is_map}
 use Rattle.overlay_base.specs.Planar.{is_planar}
 use Rattle.overlay_base.specs.declared.overlay_core.fill_rule.FillRule.TheVariants.{NonZero}
 use Rattle.overlay_base.specs.declared.overlay_core.overlay_rule.OverlayRule.{OverlayRule}
-use Rattle.overlay_split.proofs.laws.planar.PlanarPasses.{is_planar-each}
+use Rattle.overlay_cuts.proofs.laws.planar.PlanarPasses.{is_planar-each}
 use Rattle.overlay_contours.specs.Beyond.{IsOverlayBeyond}
 use Rattle.overlay_contours.specs.Contours.{edges}
 use Rattle.overlay_contours.specs.ContourSegments.{overlay_segments}

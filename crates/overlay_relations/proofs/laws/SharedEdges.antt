@@ -10,7 +10,7 @@ use Rattle.overlay_geometry.proofs.laws.lists.Lists.{Has, list_any-at, Has-from_
 use Rattle.overlay_base.specs.Places.{RationalPoint}
 use Rattle.overlay_base.specs.Rays.{goes_through}
 use Rattle.overlay_base.specs.declared.overlay_core.fill_rule.FillRule.{FillRule}
-use Rattle.overlay_split.specs.Places.{IsFar}
+use Rattle.overlay_cuts.specs.Places.{IsFar}
 use Rattle.overlay_contours.specs.Contours.{edges, winding_number}
 use Rattle.overlay_relations.specs.Contacts.{IsCloser, HasCloser, Borders, IsOnBoundary}
 use Rattle.overlay_relations.specs.Relations.{is_in}

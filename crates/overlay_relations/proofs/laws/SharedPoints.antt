@@ -19,8 +19,8 @@ use Rattle.overlay_base.specs.declared.overlay_core.fill_rule.FillRule.TheVarian
 use Rattle.overlay_base.specs.declared.overlay_core.overlay_rule.OverlayRule.TheVariants.{Subject as SubjectRule, Clip as ClipRule}
 use Rattle.overlay_base.specs.declared.segm.shape_type.ShapeType.TheVariants.{Subject}
 use Rattle.overlay_build.specs.Boundary.{truth}
-use Rattle.overlay_split.specs.Nearness.{whole_point}
-use Rattle.overlay_split.specs.Places.{IsFar}
+use Rattle.overlay_cuts.specs.Nearness.{whole_point}
+use Rattle.overlay_cuts.specs.Places.{IsFar}
 use Rattle.overlay_split.proofs.laws.nearness.FarRays.{far_lies_on_none}
 use Rattle.overlay_sweep.specs.Fill.{is_inside}
 use Rattle.overlay_contours.specs.Beyond.{IsOverlayBeyond}

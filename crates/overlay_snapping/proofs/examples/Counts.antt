@@ -3,8 +3,8 @@ use Rattle.std.proofs.Common.{◌≡◌, arith, refl, List, [], ◌∷◌}
 use Rattle.std.specs.Prelude.{pos}
 use Rattle.overlay_base.specs.Segments.{WholeSegment, pairs}
 use Rattle.overlay_base.proofs.examples.Words.{neg, point, pair, seg}
-use Rattle.overlay_split.specs.Nearness.{Fraction, point_along}
-use Rattle.overlay_split.proofs.laws.nearness.Distances.{LiesNear-itself}
+use Rattle.overlay_cuts.specs.Nearness.{Fraction, point_along}
+use Rattle.overlay_cuts.proofs.laws.nearness.Distances.{LiesNear-itself}
 use Rattle.overlay_snapping.specs.Counts.{end_count, chain_points}
 use Rattle.overlay_snapping.specs.SnapOf.{reach_of_snap, IsNearCancelledInSnap, among_given}
 use Rattle.overlay_snapping.proofs.examples.Chains.{two}

@@ -9,8 +9,8 @@ use Rattle.overlay_base.specs.SegmentOf.{data_segments_of}
 use Rattle.overlay_base.specs.declared.overlay_core.edge_data.OverlayEdgeData.{Ghosts}
 use Rattle.overlay_base.specs.declared.segm.segment.Segment.{Segment}
 use Rattle.overlay_base.specs.steps.Early.{magnitudes}
-use Rattle.overlay_split.specs.DataPass.{data_cut_by, data_pass_by}
-use Rattle.overlay_split.specs.Path.{pieces}
+use Rattle.overlay_cuts.specs.DataPass.{data_cut_by, data_pass_by}
+use Rattle.overlay_cuts.specs.Path.{pieces}
 use Rattle.overlay_snapping.specs.Chains.{IsCutAt, AreSnapCuts, AreDecided}
 
 -- the magnitudes of the counts on one pair, together

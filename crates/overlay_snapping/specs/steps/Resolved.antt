@@ -5,8 +5,8 @@ use Rattle.overlay_base.specs.Segments.{WholeSegment, pairs, ends}
 use Rattle.overlay_base.specs.steps.Early.{magnitudes}
 use Rattle.overlay_intersections.specs.Marks.{settling}
 use Rattle.overlay_intersections.specs.PassMarks.{is_rounded}
-use Rattle.overlay_split.specs.ExactInput.{contains_pair, count_along}
-use Rattle.overlay_split.specs.Pass.{pass}
+use Rattle.overlay_cuts.specs.ExactInput.{contains_pair, count_along}
+use Rattle.overlay_cuts.specs.Pass.{pass}
 
 -- no end of a pair of the list lies strictly inside e
 abbrev pub IsClear : List Pair → Pair → Type 0

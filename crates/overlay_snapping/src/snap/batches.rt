@@ -11,8 +11,8 @@ ghost use Rattle.overlay_base.specs.SegmentOf.{ends_of, winding_of, segment_of, 
 ghost use Rattle.overlay_base.specs.Windings.{is_valid};
 ghost use Rattle.overlay_intersections.specs.MarkOf.{mark_points_of, AreMarksOf};
 ghost use Rattle.overlay_intersections.specs.declared.split.placing.Placing.TheVariants.{Settling};
-ghost use Rattle.overlay_split.specs.Pass.{pass_by};
-ghost use Rattle.overlay_split.specs.Path.{pieces};
+ghost use Rattle.overlay_cuts.specs.Pass.{pass_by};
+ghost use Rattle.overlay_cuts.specs.Path.{pieces};
 ghost use Rattle.overlay_snapping.specs.HotOf.{KnowsHot};
 ghost use Rattle.overlay_snapping.specs.steps.Batches.{ForCuts};
 
@@ -22,12 +22,12 @@ use overlay_base::segm::fault::Fault;
 use overlay_base::segm::join::join_with_store;
 use overlay_base::segm::segment::Segment;
 use overlay_base::segm::winding::WindingCount;
+use overlay_cuts::split::path::collect_path;
+use overlay_cuts::split::piece::push_pieces;
 use overlay_geometry::geom::point::IntPoint;
 use overlay_geometry::geom::x_segment::XSegment;
 use overlay_geometry::num::OverlayInt;
 use overlay_intersections::split::line_mark::LineMark;
-use overlay_split::split::path::collect_path;
-use overlay_split::split::piece::push_pieces;
 
 /// Appends the pieces into which cuts divide a segment. `path` is memory that is written over.
 ///

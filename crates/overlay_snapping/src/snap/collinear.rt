@@ -21,6 +21,8 @@ use overlay_base::segm::fault::Fault;
 use overlay_base::segm::join::join_with_store;
 use overlay_base::segm::segment::Segment;
 use overlay_base::segm::winding::WindingCount;
+use overlay_cuts::split::finder::PairFinder;
+use overlay_cuts::split::pass::pass_at;
 use overlay_geometry::geom::point::IntPoint;
 use overlay_geometry::geom::triangle::Triangle;
 use overlay_geometry::geom::x_segment::XSegment;
@@ -28,8 +30,6 @@ use overlay_geometry::num::OverlayInt;
 use overlay_grid::split::fragment_memory::FragmentMemory;
 use overlay_intersections::split::line_mark::LineMark;
 use overlay_intersections::split::placing::Placing;
-use overlay_split::split::finder::PairFinder;
-use overlay_split::split::pass::pass_at;
 use overlay_tree::split::solver_tree::TreeBuffers;
 use std::alloc::{AllocError, Global};
 

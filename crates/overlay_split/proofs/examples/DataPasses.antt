@@ -2,10 +2,10 @@
 use Rattle.std.proofs.Common.{arith}
 use Rattle.std.specs.Prelude.{◌≡◌, refl, IsTrue, IsFalse, ℕ, zero, suc, ◌+◌, ◌<◌, ℤ, pos, Bool, true, false, List, [], ◌∷◌, if◌then◌else◌}
 use Rattle.overlay_base.specs.EdgeData.{DataSegment, MergeCall, Hooks, without_data}
-use Rattle.overlay_split.specs.DataPass.{data_after_passes, data_store_before, IsStoppedRun}
-use Rattle.overlay_split.specs.Run.{goes_on, leaves_range_within}
+use Rattle.overlay_cuts.specs.DataPass.{data_after_passes, data_store_before, IsStoppedRun}
+use Rattle.overlay_cuts.specs.Run.{goes_on, leaves_range_within}
 use Rattle.overlay_base.proofs.examples.Words.{neg, pair, count}
-use Rattle.overlay_split.proofs.examples.Computing.{computing}
+use Rattle.overlay_cuts.proofs.examples.Computing.{computing}
 use Rattle.overlay_split.proofs.examples.Runs.{high}
 
 data Color : Type 0 where

@@ -3,11 +3,11 @@ use Rattle.std.proofs.Common.{arith}
 use Rattle.std.specs.Prelude.{◌≡◌, refl, ℕ, pos, List, [], ◌∷◌, map}
 use Rattle.std.proofs.lemmas.Int.{ints}
 use Rattle.overlay_intersections.specs.Marks.{snapping, settling}
-use Rattle.overlay_split.specs.Nearness.{whole_point, IsNear, root, reach, reach_of_run, reach_of_passes, Cancels}
+use Rattle.overlay_cuts.specs.Nearness.{whole_point, IsNear, root, reach, reach_of_run, reach_of_passes, Cancels}
 use Rattle.overlay_base.proofs.examples.Words.{neg, point, pair, seg}
-use Rattle.overlay_split.proofs.examples.Computing.{computing}
+use Rattle.overlay_cuts.proofs.examples.Computing.{computing}
 use Rattle.overlay_split.proofs.examples.Runs.{settings, high}
-use Rattle.overlay_split.proofs.examples.Squares.{two_squares}
+use Rattle.overlay_cuts.proofs.examples.Squares.{two_squares}
 
 roots : map root (8 ∷ 9 ∷ 15 ∷ 16 ∷ []) ≡ (2 ∷ 3 ∷ 3 ∷ 4 ∷ [])
 unfolding computing

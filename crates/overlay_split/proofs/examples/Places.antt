@@ -5,17 +5,17 @@ use Rattle.std.proofs.lemmas.Int.{ints}
 use Rattle.overlay_geometry.specs.Points.{Pair}
 use Rattle.overlay_base.specs.Segments.{WholeSegment, pairs}
 use Rattle.overlay_geometry.proofs.laws.lists.Lists.{Has}
-use Rattle.overlay_split.specs.Run.{after_passes}
+use Rattle.overlay_cuts.specs.Run.{after_passes}
 use Rattle.overlay_base.specs.Places.{RationalPoint, lies_below, winding_below}
-use Rattle.overlay_split.specs.Nearness.{IsNear, reach_of_run, with_mask, LinesStayNear}
-use Rattle.overlay_split.specs.Places.{IsFar, that_wind}
+use Rattle.overlay_cuts.specs.Nearness.{IsNear, reach_of_run, with_mask, LinesStayNear}
+use Rattle.overlay_cuts.specs.Places.{IsFar, that_wind}
 use Rattle.overlay_split.proofs.laws.nearness.NearLines.{run_keeps_winding_near_lines}
 use Rattle.overlay_split.proofs.laws.nearness.NearMasks.{run_keeps_lines}
 use Rattle.overlay_split.proofs.laws.nearness.Places.{run_keeps_winding}
 use Rattle.overlay_base.proofs.examples.Words.{neg, pair, seg, line, count}
-use Rattle.overlay_split.proofs.examples.Computing.{computing}
+use Rattle.overlay_cuts.proofs.examples.Computing.{computing}
 use Rattle.overlay_split.proofs.examples.Runs.{high}
-use Rattle.overlay_split.proofs.examples.Squares.{two_squares, twelve}
+use Rattle.overlay_cuts.proofs.examples.Squares.{two_squares, twelve}
 use Rattle.overlay_geometry.proofs.laws.lists.Elements.{Has-from_Contains}
 
 abbrev place : ℤ → ℤ → ℕ → RationalPoint

@@ -2,11 +2,11 @@
 use Rattle.std.proofs.Common.{arith}
 use Rattle.std.specs.Prelude.{◌≡◌, refl, IsTrue, IsFalse, ◌<◌, ◌≤◌, ℕ, zero, suc, pos, List, [], ◌∷◌, map, length}
 use Rattle.overlay_base.specs.Segments.{WholeSegment}
-use Rattle.overlay_split.specs.Nearness.{joined_in}
-use Rattle.overlay_split.specs.Run.{goes_on, leaves_range_within}
+use Rattle.overlay_cuts.specs.Nearness.{joined_in}
+use Rattle.overlay_cuts.specs.Run.{goes_on, leaves_range_within}
 use Rattle.overlay_split.specs.RunLengths.{JoinsAtMost, IsFirstBeyond}
 use Rattle.overlay_base.proofs.examples.Words.{neg, seg}
-use Rattle.overlay_split.proofs.examples.Computing.{computing}
+use Rattle.overlay_cuts.proofs.examples.Computing.{computing}
 use Rattle.overlay_split.proofs.examples.Runs.{high}
 
 abbrev lines : List WholeSegment

@@ -3,11 +3,11 @@ use Rattle.std.proofs.Common.{arith}
 use Rattle.std.specs.Prelude.{◌≡◌, refl, IsTrue, ◌<◌, ℕ, zero, suc, pos, Bool, true, false, ◌&&◌, List, [], ◌∷◌, map}
 use Rattle.overlay_base.specs.Segments.{WholeSegment}
 use Rattle.overlay_base.specs.Join.{join}
-use Rattle.overlay_split.specs.Run.{Settings, after_passes, goes_on, radius_of_pass, has_changed, leaves_range_within, IsPassCount}
-use Rattle.overlay_split.specs.Potential.{potential}
+use Rattle.overlay_cuts.specs.Run.{Settings, after_passes, goes_on, radius_of_pass, has_changed, leaves_range_within, IsPassCount}
+use Rattle.overlay_cuts.specs.Potential.{potential}
 use Rattle.overlay_base.proofs.examples.Words.{neg, seg}
-use Rattle.overlay_split.proofs.examples.Computing.{computing}
-use Rattle.overlay_split.proofs.examples.Squares.{two_squares, twelve}
+use Rattle.overlay_cuts.proofs.examples.Computing.{computing}
+use Rattle.overlay_cuts.proofs.examples.Squares.{two_squares, twelve}
 
 -- the radius starts at 2^start and grows by the progression
 abbrev pub settings : ℕ → ℕ → ℕ → Settings

@@ -10,17 +10,17 @@ use Rattle.overlay_base.specs.EdgeData.{DataSegment, Hooks, without_data}
 use Rattle.overlay_geometry.proofs.laws.geometry.Points.{pair_eq_same, same_pair_by_eq}
 use Rattle.overlay_geometry.proofs.laws.lists.Lists.{AllByRecursion-both, AllByRecursion-from_Has, AllByRecursion-from_list_all, AllByRecursion-weaker, Has-from_list_any, list_all-at, list_all-from_Has, list_any-from_Has}
 use Rattle.overlay_geometry.proofs.laws.lists.Elements.{Contains-from_Has}
-use Rattle.overlay_split.specs.DataPass.{data_after_passes}
-use Rattle.overlay_split.specs.Laws.{HooksKeep, HooksNameNoOther, NameNear}
-use Rattle.overlay_split.specs.Nearness.{LiesNear, reach_of_run}
-use Rattle.overlay_split.specs.Run.{Settings, IsRun, after_passes}
-use Rattle.overlay_split.specs.ExactInput.{is_exact_input}
-use Rattle.overlay_split.proofs.laws.nearness.Distances.{LiesNear-itself}
-use Rattle.overlay_split.proofs.laws.nearness.NamedData.{data_names_what_is_near}
+use Rattle.overlay_cuts.specs.DataPass.{data_after_passes}
+use Rattle.overlay_cuts.specs.Laws.{HooksKeep, HooksNameNoOther, NameNear}
+use Rattle.overlay_cuts.specs.Nearness.{LiesNear, reach_of_run}
+use Rattle.overlay_cuts.specs.Run.{Settings, IsRun, after_passes}
+use Rattle.overlay_cuts.specs.ExactInput.{is_exact_input}
+use Rattle.overlay_cuts.proofs.laws.nearness.Distances.{LiesNear-itself}
+use Rattle.overlay_cuts.proofs.laws.nearness.NamedData.{data_names_what_is_near}
 use Rattle.overlay_split.proofs.laws.nearness.Nearness.{exact_input_reaches_nothing}
-use Rattle.overlay_split.proofs.laws.passes.DataInvariants.{data_keeps_what_hooks_keep}
+use Rattle.overlay_cuts.proofs.laws.passes.DataInvariants.{data_keeps_what_hooks_keep}
 use Rattle.overlay_base.proofs.examples.Words.{neg, pair, count}
-use Rattle.overlay_split.proofs.examples.Computing.{computing}
+use Rattle.overlay_cuts.proofs.examples.Computing.{computing}
 use Rattle.overlay_split.proofs.examples.Runs.{high}
 
 abbrev sources : {S : Type 0} → Hooks ℕ S

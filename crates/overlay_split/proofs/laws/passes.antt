@@ -1,5 +1,4 @@
 -- Data, and the code of a pass and of a run.
-pub mod DataPasses
 pub mod UnmarkedPairs
 pub mod OldPairs
 pub mod ChangedPairs
@@ -11,20 +10,9 @@ pub mod BoundChanges
 pub mod AroundMarks
 pub mod PartLooks
 pub mod PartMarks
-pub mod DataInvariants
 pub mod StoppedRuns
-pub mod Columns
-pub mod PieceSteps
-pub mod MarkBlocks
-pub mod CutSteps
-pub mod CutLists
-pub mod CutWalks
 pub mod Splittable
 pub mod Splitting
-pub mod Ready
-pub mod GridRuns
 pub mod RunLooks
-pub mod Stores
-pub mod Skips
 pub mod PieceNumbers
 pub mod RunLengths

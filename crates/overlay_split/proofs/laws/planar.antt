@@ -1,10 +1,4 @@
 -- Planar results and exact input.
-pub mod Meetings
-pub mod Parts
-pub mod WholeCrossings
-pub mod ExactMarks
-pub mod OrderedPaths
-pub mod PlanarPasses
 pub mod Arranged
 pub mod PlanarRuns
 pub mod ExactInputs

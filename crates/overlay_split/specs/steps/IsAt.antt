@@ -3,8 +3,8 @@ use Rattle.std.specs.Prelude.{◌≡◌, ℕ, ◌<◌, ℤ, Bool, List, IsTrue, 
 use Rattle.overlay_base.specs.Segments.{WholeSegment, is_map}
 use Rattle.overlay_base.specs.Planar.{is_splittable}
 use Rattle.overlay_base.specs.EdgeData.{DataSegment, Hooks}
-use Rattle.overlay_split.specs.DataPass.{data_after_passes}
-use Rattle.overlay_split.specs.Run.{Settings, after_passes, goes_on, has_changed, leaves_range_within}
+use Rattle.overlay_cuts.specs.DataPass.{data_after_passes}
+use Rattle.overlay_cuts.specs.Run.{Settings, after_passes, goes_on, has_changed, leaves_range_within}
 
 -- k passes were made, and this is the list after them, with its data and the store
 pub record IsAt {D S : Type 0} (hooks : Hooks D S) (settings : Settings) (least greatest : ℤ) (given now : List WholeSegment) (data_given data_now : List (DataSegment D)) (from store : S) (k : ℕ) (changed goes : Bool) : Type 0 where

@@ -10,13 +10,13 @@ ghost use Rattle.overlay_geometry.specs.Points.{Point, is_ordered, pair_cmp};
 ghost use Rattle.overlay_geometry.specs.RangeOf.{rect_of};
 ghost use Rattle.overlay_geometry.specs.Ranges.{do_rects_meet};
 ghost use Rattle.overlay_intersections.specs.MarkOf.{marks_of, mark_points_of};
-ghost use Rattle.overlay_split.specs.CutOf.{AreCutMarksOf, ForMarks};
+ghost use Rattle.overlay_cuts.specs.CutOf.{AreCutMarksOf, ForMarks};
 ghost use Rattle.overlay_split.specs.steps.ChangedBoxes.{AreAround, AreFromLeft, LiesIn, LiesInWith, box_of, is_near, meets_one, near_from, rects_of, renamed};
 
-use crate::split::cut::index_len;
 use overlay_base::segm::fault::Fault;
 use overlay_base::segm::segment::Segment;
 use overlay_base::segm::winding::WindingCount;
+use overlay_cuts::split::cut::index_len;
 use overlay_geometry::geom::point::IntPoint;
 use overlay_geometry::geom::rect::IntRect;
 use overlay_geometry::geom::x_segment::XSegment;

@@ -1,13 +1,13 @@
 // The laws of passes and of runs. Each function has an empty body, and its contract is proved for all whole numbers,
 // all lists and all hooks, whatever the engine.
 ghost use Rattle.overlay_split.specs.Laws.{NumbersAreOdd, PiecesTelescope, PassKeepsLosses, PassKeepsBalance, RunKeepsBalance, RunKeepsPolygons, UnmarkedAreApart, PassHasOldOrMarked, PartHasTheMarks};
-ghost use Rattle.overlay_split.specs.Laws.{CutKeepsBalance, CutIsMap, CutIsSplittable, UnmarkedCutIsUnchanged, CutKeepsPolygons, CutStaysNear, CutPiecesStayNear, CutKeepsWhatWinds, CutKeepsLines, CutKeepsWinding, CutKeepsWindingNearLines, CutStaysInBox, BoxesAreMeant};
-ghost use Rattle.overlay_split.specs.Laws.{DataCutIsBeside, UnmarkedDataCutIsUnchanged, DataCutKeepsWhatHooksKeep, DataCutNamesWhatIsNear};
-ghost use Rattle.overlay_split.specs.Laws.{SettlingLowers, RunEnds, RunIsOne, ExactPassIsPlanar, PlanarPassIsUnchanged, RunIsPlanar, ArrangedIsUnchanged, ResultIsUnchanged};
-ghost use Rattle.overlay_split.specs.Laws.{RootIsMeant, RootOfPower, NearEndsAreEnough, DistancesAddUp, CrossingLiesOnBoth, MarkIsNear, PassStaysNear, PiecesStayNear, RunStaysNear, LinesAreKept, RunKeepsLines, ReachIsBounded, LastPassReachesNothing, ExactInputReachesNothing};
-ghost use Rattle.overlay_split.specs.Laws.{PassOnOneSide, JoinKeepsWinding, PassKeepsWinding, RunKeepsWinding, RunKeepsWindingNearLines, ExactInputKeepsWinding};
+ghost use Rattle.overlay_cuts.specs.Laws.{CutKeepsBalance, CutIsMap, CutIsSplittable, CutStaysNear, CutPiecesStayNear, CutKeepsWinding, CutStaysInBox, BoxesAreMeant, DataCutIsBeside, UnmarkedDataCutIsUnchanged, DataCutKeepsWhatHooksKeep, DataCutNamesWhatIsNear, ExactPassIsPlanar, RootIsMeant, RootOfPower, CrossingLiesOnBoth, MarkIsNear, JoinKeepsWinding, StaysInBox, DataIsBeside, UnmarkedDataIsUnchanged, ArrangedDataIsUnchanged, DataKeepsWhatHooksKeep, DataNamesWhatIsNear};
+ghost use Rattle.overlay_split.specs.Laws.{UnmarkedCutIsUnchanged, CutKeepsPolygons, CutKeepsWhatWinds, CutKeepsLines, CutKeepsWindingNearLines};
+ghost use Rattle.overlay_split.specs.Laws.{SettlingLowers, RunEnds, RunIsOne, PlanarPassIsUnchanged, RunIsPlanar, ArrangedIsUnchanged, ResultIsUnchanged};
+ghost use Rattle.overlay_split.specs.Laws.{NearEndsAreEnough, DistancesAddUp, PassStaysNear, PiecesStayNear, RunStaysNear, LinesAreKept, RunKeepsLines, ReachIsBounded, LastPassReachesNothing, ExactInputReachesNothing};
+ghost use Rattle.overlay_split.specs.Laws.{PassOnOneSide, PassKeepsWinding, RunKeepsWinding, RunKeepsWindingNearLines, ExactInputKeepsWinding};
 ghost use Rattle.overlay_split.specs.Laws.{PassesIgnoreOrder, RunIgnoresOrder, FarLiesOnNone, RunKeepsRays};
-ghost use Rattle.overlay_split.specs.Laws.{StaysInBox, ExactInputKeepsCounts, ExactInputHasOneAnswer, ExactRunsAgree, DataIsBeside, UnmarkedDataIsUnchanged, ArrangedDataIsUnchanged, DataKeepsWhatHooksKeep, DataNamesWhatIsNear, StoppedRunLeavesRange, StoppedRunIsOne};
+ghost use Rattle.overlay_split.specs.Laws.{ExactInputKeepsCounts, ExactInputHasOneAnswer, ExactRunsAgree, StoppedRunLeavesRange, StoppedRunIsOne};
 
 /// Take a function of points, and a number of the count that inversion negates, as `subj` and `clip`. The pieces of a
 /// segment, each with what the function loses from its start to its end times that number, add up to the segment. So a

@@ -8,7 +8,7 @@ use Rattle.overlay_geometry.specs.Points.{Point, Pair}
 use Rattle.overlay_geometry.proofs.laws.integers.Tests.{le_equal}
 use Rattle.overlay_base.specs.Places.{RationalPoint, spans, lies_below}
 use Rattle.overlay_base.specs.Sums.{gathered}
-use Rattle.overlay_split.specs.Path.{last_point}
+use Rattle.overlay_cuts.specs.Path.{last_point}
 use Rattle.overlay_contours.specs.Contours.{steps_from, turned, step_winding}
 use Rattle.overlay_contours.proofs.laws.Windings.{not_below}
 use Rattle.overlay_tiles.proofs.laws.Clamps.{and_false, both_met, below_level, above_level}

@@ -9,11 +9,11 @@ use Rattle.overlay_geometry.proofs.laws.integers.Tests.{le-test, le-test_false, 
 use Rattle.overlay_geometry.proofs.laws.lists.Lists.{Steps, Has, by_list_any, AllByRecursion-at}
 use Rattle.overlay_base.specs.Places.{RationalPoint, spans, runs_below, lies_below}
 use Rattle.overlay_base.specs.Sums.{gathered}
-use Rattle.overlay_split.specs.Path.{last_point}
-use Rattle.overlay_split.specs.Nearness.{whole_point, IsNear, LiesNear}
-use Rattle.overlay_split.proofs.laws.nearness.Distances.{LiesNear-from_ends}
-use Rattle.overlay_split.proofs.laws.nearness.OneSide.{one_side}
-use Rattle.overlay_split.proofs.laws.paths.Pieces.{last_point-append}
+use Rattle.overlay_cuts.specs.Path.{last_point}
+use Rattle.overlay_cuts.specs.Nearness.{whole_point, IsNear, LiesNear}
+use Rattle.overlay_cuts.proofs.laws.nearness.Distances.{LiesNear-from_ends}
+use Rattle.overlay_cuts.proofs.laws.nearness.OneSide.{one_side}
+use Rattle.overlay_cuts.proofs.laws.paths.Pieces.{last_point-append}
 use Rattle.overlay_contours.specs.Contours.{steps_from, turned, step_winding}
 
 -- 1 for a point up to the vertical line through p

@@ -12,8 +12,8 @@ use Rattle.overlay_base.specs.Places.{RationalPoint}
 use Rattle.overlay_base.specs.Sums.{gathered}
 use Rattle.overlay_base.proofs.laws.lists.Monoids.{gathered-append}
 use Rattle.overlay_base.proofs.laws.joins.Functionals.{whole_numbers_add}
-use Rattle.overlay_split.specs.Path.{last_point}
-use Rattle.overlay_split.proofs.laws.paths.Paths.{Steps-append}
+use Rattle.overlay_cuts.specs.Path.{last_point}
+use Rattle.overlay_cuts.proofs.laws.paths.Paths.{Steps-append}
 use Rattle.overlay_contours.specs.Contours.{steps_from, steps_of, steps, step_winding, winding_number}
 use Rattle.overlay_tiles.specs.Tiles.{IsTile, BelongsToTile, LiesInTile, clamp, Line, parts, cut, refined, cut_path, without_last, step_points, clipped, all_clipped}
 use Rattle.overlay_tiles.specs.Laws.{IsOff, ContoursWindAlike, ClippedLieInTile}

@@ -8,7 +8,7 @@ use Rattle.overlay_geometry.proofs.laws.geometry.Polynomials.{as_D, diffs, D-eq,
 use Rattle.overlay_geometry.proofs.laws.integers.Products.{scaled_le}
 use Rattle.overlay_intersections.specs.Crossing.{quotient, nearest_upward}
 use Rattle.overlay_intersections.proofs.laws.crossings.Rounding.{over, IsRoundedUp, nearest_upward-is}
-use Rattle.overlay_split.specs.Nearness.{Fraction, point_along}
+use Rattle.overlay_cuts.specs.Nearness.{Fraction, point_along}
 use Rattle.overlay_snapping.specs.Pixels.{IsInPixel}
 use Rattle.overlay_tiles.specs.Tiles.{Line, upright, level, parts, height_at, cut}
 use Rattle.overlay_tiles.proofs.laws.Refinements.{IsAmid, IsAmong, IsInBoxOf, amid-tested}

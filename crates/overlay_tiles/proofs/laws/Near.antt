@@ -10,8 +10,8 @@ use Rattle.overlay_geometry.specs.Points.{Point, Pair, is_vertical, is_horizonta
 use Rattle.overlay_geometry.specs.Ranges.{Rect}
 use Rattle.overlay_geometry.proofs.laws.integers.Tests.{eq-test, eq-tested, le_weak}
 use Rattle.overlay_geometry.proofs.laws.lists.Lists.{Steps, Has, Has-append_left, Has-append_right, AllByRecursion-append, AllByRecursion-weaker}
-use Rattle.overlay_split.specs.Nearness.{LiesNear}
-use Rattle.overlay_split.proofs.laws.nearness.Distances.{LiesNear-from_ends}
+use Rattle.overlay_cuts.specs.Nearness.{LiesNear}
+use Rattle.overlay_cuts.proofs.laws.nearness.Distances.{LiesNear-from_ends}
 use Rattle.overlay_contours.specs.Contours.{steps_of, steps, turned}
 use Rattle.overlay_tiles.specs.Tiles.{IsTile, clamp, is_slanted, cut_path, clipped, all_clipped}
 use Rattle.overlay_tiles.proofs.laws.Clamps.{IsBeside, inside, on_left, on_right, under, over, clamped_low, clamped_high, clamped_amid}

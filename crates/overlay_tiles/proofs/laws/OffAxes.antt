@@ -15,28 +15,28 @@ use Rattle.overlay_base.proofs.laws.lists.Monoids.{gathered-same, gathered-throu
 use Rattle.overlay_base.proofs.laws.joins.Bags.{total_weight-total}
 use Rattle.overlay_base.proofs.laws.joins.Functionals.{whole_numbers_add, total_weight-filter, at_subj, at_clip}
 use Rattle.overlay_base.proofs.laws.counts.Windings.{same_windings}
-use Rattle.overlay_split.specs.Path.{path, piece, pieces_along, pieces}
-use Rattle.overlay_split.specs.Pass.{cut_by, pass_by, EachMark}
+use Rattle.overlay_cuts.specs.Path.{path, piece, pieces_along, pieces}
+use Rattle.overlay_cuts.specs.Pass.{cut_by, pass_by, EachMark}
 use Rattle.overlay_base.specs.Places.{RationalPoint, spans, runs_below, lies_below, winding_below}
-use Rattle.overlay_split.specs.Nearness.{whole_point, IsNear, LiesNear}
-use Rattle.overlay_split.specs.Places.{IsFar}
-use Rattle.overlay_split.specs.Laws.{IsOdd, loss}
-use Rattle.overlay_split.proofs.laws.nearness.Places.{join_keeps_winding, IsFlat}
-use Rattle.overlay_split.proofs.laws.paths.Boxes.{AtEnds, pieces_have}
-use Rattle.overlay_split.proofs.laws.paths.Cuts.{gathered-cut}
-use Rattle.overlay_split.proofs.laws.paths.MarkedPairs.{EachMark-at}
-use Rattle.overlay_split.proofs.laws.paths.PieceCounts.{counts_of_pieces}
-use Rattle.overlay_split.proofs.laws.paths.Pieces.{weighed-pieces}
-use Rattle.overlay_split.proofs.laws.nearness.Distances.{LiesNear-from_ends, IsNear-start, IsNear-end}
-use Rattle.overlay_split.proofs.laws.nearness.NearMarks.{AreNear, MarksAreNear}
-use Rattle.overlay_split.proofs.laws.nearness.Nearness.{pieces_lie_near}
-use Rattle.overlay_split.proofs.laws.nearness.OneSide.{one_side}
+use Rattle.overlay_cuts.specs.Nearness.{whole_point, IsNear, LiesNear}
+use Rattle.overlay_cuts.specs.Places.{IsFar}
+use Rattle.overlay_cuts.specs.Laws.{IsOdd, loss}
+use Rattle.overlay_cuts.proofs.laws.nearness.Places.{join_keeps_winding, IsFlat}
+use Rattle.overlay_cuts.proofs.laws.paths.Boxes.{AtEnds, pieces_have}
+use Rattle.overlay_cuts.proofs.laws.paths.Cuts.{gathered-cut}
+use Rattle.overlay_cuts.proofs.laws.paths.MarkedPairs.{EachMark-at}
+use Rattle.overlay_cuts.proofs.laws.paths.PieceCounts.{counts_of_pieces}
+use Rattle.overlay_cuts.proofs.laws.paths.Pieces.{weighed-pieces}
+use Rattle.overlay_cuts.proofs.laws.nearness.Distances.{LiesNear-from_ends, IsNear-start, IsNear-end}
+use Rattle.overlay_cuts.proofs.laws.nearness.NearMarks.{AreNear, MarksAreNear}
+use Rattle.overlay_cuts.proofs.laws.nearness.Nearness.{pieces_lie_near}
+use Rattle.overlay_cuts.proofs.laws.nearness.OneSide.{one_side}
 use Rattle.overlay_geometry.proofs.laws.integers.Tests.{le_equal, le-test, le-test_false, lt-test, lt-test_false, eq-tested}
 use Rattle.overlay_geometry.proofs.laws.integers.Products.{zero_times, times_nothing, scaled_le}
 use Rattle.overlay_geometry.proofs.laws.lists.Elements.{Contains-from_Has}
 use Rattle.overlay_base.specs.Join.{join}
 use Rattle.overlay_base.proofs.laws.joins.Maps.{are_ordered-join}
-use Rattle.overlay_split.proofs.laws.planar.ExactInputs.{In-join}
+use Rattle.overlay_cuts.proofs.laws.planar.ExactInputs.{In-join}
 use Rattle.overlay_snapping.specs.Chains.{AreSnapCuts, AreDecided}
 use Rattle.overlay_snapping.specs.SnapOf.{reach_of_snap}
 use Rattle.overlay_snapping.proofs.laws.chains.MarkLists.{each_cut}

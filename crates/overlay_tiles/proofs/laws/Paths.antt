@@ -6,8 +6,8 @@ use Rattle.overlay_geometry.specs.Points.{Point, Pair, is_vertical, is_horizonta
 use Rattle.overlay_geometry.specs.Ranges.{Rect}
 use Rattle.overlay_base.specs.Places.{RationalPoint}
 use Rattle.overlay_base.specs.Sums.{gathered}
-use Rattle.overlay_split.specs.Path.{last_point}
-use Rattle.overlay_split.specs.Nearness.{whole_point, point_along, IsNear}
+use Rattle.overlay_cuts.specs.Path.{last_point}
+use Rattle.overlay_cuts.specs.Nearness.{whole_point, point_along, IsNear}
 use Rattle.overlay_snapping.proofs.laws.pixels.Distances.{IsWithin-from_pixel}
 use Rattle.overlay_contours.specs.Contours.{steps_from, step_winding}
 use Rattle.overlay_tiles.specs.Tiles.{IsTile, BelongsToTile, clamp, Line, upright, level, parts, cut, refined, cut_path}

@@ -20,7 +20,7 @@ use Rattle.overlay_base.specs.declared.segm.shape_type.ShapeType.{ShapeType}
 use Rattle.overlay_base.specs.declared.segm.shape_type.ShapeType.TheVariants.{Subject, Clip}
 use Rattle.overlay_base.proofs.laws.joins.Members.{are_polygons-join}
 use Rattle.overlay_base.proofs.laws.joins.Maps.{are_ordered-join}
-use Rattle.overlay_split.specs.Pass.{pass_by}
+use Rattle.overlay_cuts.specs.Pass.{pass_by}
 use Rattle.overlay_split.proofs.laws.paths.Masks.{cut_keeps_polygons}
 use Rattle.overlay_snapping.specs.Chains.{AreSnapCuts, AreDecided}
 use Rattle.overlay_snapping.proofs.laws.chains.SnapRuns.{keeps_balance}
@@ -40,8 +40,8 @@ use Rattle.overlay_contours.specs.declared.fault.ContourFault.{ContourFault}
 use Rattle.overlay_contours.specs.declared.fault.ContourFault.TheVariants.{OutOfRange, Refused}
 use Rattle.overlay_tiles.specs.TileOverlays.{IsTilePart, IsTileRefusal}
 use Rattle.overlay_tiles.specs.Tiles.{IsTile, BelongsToTile, LiesInTile, all_clipped, reaching, in_tile}
-use Rattle.overlay_split.proofs.laws.paths.Boxes.{boxes_are_meant, cut_stays_in_box}
-use Rattle.overlay_split.proofs.laws.planar.ExactInputs.{In-join}
+use Rattle.overlay_cuts.proofs.laws.paths.Boxes.{boxes_are_meant, cut_stays_in_box}
+use Rattle.overlay_cuts.proofs.laws.planar.ExactInputs.{In-join}
 use Rattle.overlay_snapping.proofs.laws.chains.MarkLists.{each_cut}
 use Rattle.overlay_snapping.proofs.laws.chains.Paths.{cut_in_box}
 use Rattle.overlay_contours.proofs.laws.Extracts.{all_pass}

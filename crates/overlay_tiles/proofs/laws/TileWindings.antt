@@ -14,9 +14,9 @@ use Rattle.overlay_base.specs.Places.{RationalPoint}
 use Rattle.overlay_base.specs.Segments.{WholeSegment, pairs, are_ordered}
 use Rattle.overlay_base.specs.declared.segm.shape_type.ShapeType.{ShapeType}
 use Rattle.overlay_base.specs.declared.segm.shape_type.ShapeType.TheVariants.{Subject, Clip}
-use Rattle.overlay_split.specs.Nearness.{point_along, IsNear, LiesNear}
-use Rattle.overlay_split.specs.Places.{IsFar}
-use Rattle.overlay_split.proofs.laws.nearness.Distances.{IsNear-weaker, IsNear-from_point}
+use Rattle.overlay_cuts.specs.Nearness.{point_along, IsNear, LiesNear}
+use Rattle.overlay_cuts.specs.Places.{IsFar}
+use Rattle.overlay_cuts.proofs.laws.nearness.Distances.{IsNear-weaker, IsNear-from_point}
 use Rattle.overlay_snapping.specs.SnapOf.{reach_of_snap}
 use Rattle.overlay_contours.specs.Contours.{steps, is_edge, turned}
 use Rattle.overlay_contours.specs.ContourSegments.{step_segment, contour_segments, overlay_segments}

@@ -4,7 +4,7 @@ use Rattle.overlay_base.specs.ClipRules.{keeps_clip}
 use Rattle.overlay_base.specs.Segments.{WholeSegment}
 use Rattle.overlay_base.specs.SegmentOf.{segments_of}
 use Rattle.overlay_base.proofs.laws.joins.Views.{segments_ordered}
-use Rattle.overlay_split.specs.Run.{Settings}
+use Rattle.overlay_cuts.specs.Run.{Settings}
 use Rattle.overlay_split.specs.SettingsOf.{passes_of, settings_of}
 use Rattle.overlay_build.specs.Graph.{graph_by}
 use Rattle.overlay_build.specs.GraphOf.{HoldGraph, graph_with}

@@ -4,7 +4,7 @@ use Rattle.std.proofs.lemmas.Result.{IfOk-weaker, on_ok_weaker}
 use Rattle.overlay_base.specs.Rules.{holds, keeps_fill}
 use Rattle.overlay_base.specs.Segments.{WholeSegment}
 use Rattle.overlay_base.specs.SegmentOf.{segments_of, data_segments_of}
-use Rattle.overlay_split.specs.Run.{Settings}
+use Rattle.overlay_cuts.specs.Run.{Settings}
 use Rattle.overlay_split.specs.SettingsOf.{passes_of, settings_of}
 use Rattle.overlay_build.specs.Graph.{graph_by, data_by}
 use Rattle.overlay_build.specs.GraphOf.{HoldGraph, graph_with}
@@ -12,10 +12,10 @@ use Rattle.overlay_build.specs.NodeIndexes.{indexes_of, is_canonical_node}
 use Rattle.i_overlay.specs.Courses.{course_of_passes}
 use Rattle.i_overlay.specs.FarRegions.{EnclosesOverlay}
 use Rattle.i_overlay.specs.Headline.{IsSplit, IsOverlay, LinksNameNear}
-use Rattle.overlay_split.proofs.laws.passes.DataInvariants.{data_keeps_what_hooks_keep}
+use Rattle.overlay_cuts.proofs.laws.passes.DataInvariants.{data_keeps_what_hooks_keep}
 use Rattle.overlay_base.specs.EdgeData.{without_data}
 use Rattle.overlay_base.proofs.laws.joins.Views.{segments_of-bare}
-use Rattle.overlay_split.specs.Nearness.{reach_of_run}
+use Rattle.overlay_cuts.specs.Nearness.{reach_of_run}
 use Rattle.overlay_build.proofs.laws.graphs.BuiltGraphs.{graph_with_kept}
 use Rattle.overlay_contours.proofs.laws.NamedLinks.{IfOk-both}
 use Rattle.i_overlay.proofs.laws.NamedLinks.{links_name_near}

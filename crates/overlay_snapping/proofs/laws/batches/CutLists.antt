@@ -5,7 +5,7 @@ use Rattle.overlay_geometry.specs.Points.{Point, Pair}
 use Rattle.overlay_geometry.proofs.laws.lists.Lists.{Has, AllByRecursion-from_Has, Has-map}
 use Rattle.overlay_geometry.proofs.laws.lists.Elements.{Contains-from_Has}
 use Rattle.overlay_base.specs.Segments.{WholeSegment, pairs, are_ordered}
-use Rattle.overlay_split.specs.Path.{path, pieces}
+use Rattle.overlay_cuts.specs.Path.{path, pieces}
 use Rattle.overlay_snapping.specs.Chains.{AreSnapCuts, AreDecided}
 use Rattle.overlay_snapping.proofs.laws.batches.FewPieces.{few_on_pair, sorted_are_distinct}
 use Rattle.overlay_snapping.proofs.laws.batches.Walks.{AreFew}

@@ -18,13 +18,13 @@ use Rattle.overlay_base.proofs.laws.joins.DataJoins.{bare}
 use Rattle.overlay_base.proofs.laws.joins.Views.{segments_of-bare}
 use Rattle.overlay_intersections.proofs.laws.marks.ApartPairs.{ends_differ}
 use Rattle.overlay_intersections.proofs.laws.marks.Marks.{Differ}
-use Rattle.overlay_split.specs.DataPass.{data_pieces}
-use Rattle.overlay_split.specs.Path.{columns_in_order, columns_of, path_from, path, pieces, pieces_along}
-use Rattle.overlay_split.specs.steps.PathSteps.{IsPathOf}
-use Rattle.overlay_split.proofs.laws.passes.CutWalks.{IsPathOf-path_from, path_as_collected}
-use Rattle.overlay_split.proofs.laws.passes.DataPasses.{bare-data_pieces}
-use Rattle.overlay_split.proofs.laws.paths.PieceCounts.{counts_of_pieces, is_valid-inverse}
-use Rattle.overlay_split.proofs.laws.paths.Potentials.{distinct_in_order-sorted}
+use Rattle.overlay_cuts.specs.DataPass.{data_pieces}
+use Rattle.overlay_cuts.specs.Path.{columns_in_order, columns_of, path_from, path, pieces, pieces_along}
+use Rattle.overlay_cuts.specs.steps.PathSteps.{IsPathOf}
+use Rattle.overlay_cuts.proofs.laws.passes.CutWalks.{IsPathOf-path_from, path_as_collected}
+use Rattle.overlay_cuts.proofs.laws.passes.DataPasses.{bare-data_pieces}
+use Rattle.overlay_cuts.proofs.laws.paths.PieceCounts.{counts_of_pieces, is_valid-inverse}
+use Rattle.overlay_cuts.proofs.laws.paths.Ends.{distinct_in_order-sorted}
 
 -- ---- the path
 

@@ -10,7 +10,7 @@ use Rattle.overlay_base.specs.Windings.{Winding, inverse}
 use Rattle.overlay_base.specs.Segments.{WholeSegment}
 use Rattle.overlay_base.specs.steps.Early.{magnitude}
 use Rattle.overlay_intersections.proofs.laws.crossings.Crossings.{abs_neg}
-use Rattle.overlay_split.specs.Path.{piece, pieces_along}
+use Rattle.overlay_cuts.specs.Path.{piece, pieces_along}
 use Rattle.overlay_snapping.specs.Chains.{along_cmp, comes_before}
 use Rattle.overlay_snapping.specs.steps.Batches.{magnitudes_at}
 use Rattle.overlay_snapping.proofs.laws.chains.Orders.{all_after, not_before_itself}

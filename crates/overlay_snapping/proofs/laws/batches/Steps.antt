@@ -21,7 +21,7 @@ use Rattle.overlay_base.specs.steps.Early.{magnitude, magnitudes}
 use Rattle.overlay_base.proofs.laws.joins.Members.{masks-join, counts_in_range-join}
 use Rattle.overlay_intersections.specs.MarkOf.{mark_points_of}
 use Rattle.overlay_intersections.specs.declared.split.line_mark.LineMark.{LineMark}
-use Rattle.overlay_split.specs.Path.{pieces}
+use Rattle.overlay_cuts.specs.Path.{pieces}
 use Rattle.overlay_snapping.specs.Chains.{AreCutsBetween, AreDecided}
 use Rattle.overlay_snapping.specs.CutsOf.{AreCutsAt}
 use Rattle.overlay_snapping.specs.steps.Batches.{IsCutSoFar, HasCuts, ForCuts}

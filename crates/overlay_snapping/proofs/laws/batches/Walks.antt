@@ -13,9 +13,9 @@ use Rattle.overlay_base.specs.steps.Early.{magnitude, magnitudes}
 use Rattle.overlay_base.proofs.laws.joins.Bags.{count_at, windings_add, winding_at-gathered, winding_at-append, winding_at-join}
 use Rattle.overlay_base.proofs.laws.joins.Early.{magnitudes-cons}
 use Rattle.overlay_base.proofs.laws.joins.Maps.{join_from_windings}
-use Rattle.overlay_split.specs.Path.{pieces}
-use Rattle.overlay_split.specs.Pass.{cut_by, pass_by}
-use Rattle.overlay_split.proofs.laws.paths.Cuts.{gathered-cut, gathered-flat_map}
+use Rattle.overlay_cuts.specs.Path.{pieces}
+use Rattle.overlay_cuts.specs.Pass.{cut_by, pass_by}
+use Rattle.overlay_cuts.proofs.laws.paths.Cuts.{gathered-cut, gathered-flat_map}
 use Rattle.overlay_snapping.specs.steps.Batches.{magnitudes_at, IsCutSoFar}
 use Rattle.overlay_snapping.proofs.laws.batches.Bounds.{magnitudes_at-nil, magnitudes_at-same, magnitudes_at-other, magnitudes_at-append, magnitudes_at-join, bounded_sums_stay}
 

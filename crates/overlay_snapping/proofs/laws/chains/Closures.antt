@@ -9,7 +9,7 @@ use Rattle.overlay_geometry.specs.Sorting.{is_strictly_sorted}
 use Rattle.overlay_geometry.proofs.laws.geometry.Points.{same_by_eq, same_pair_by_eq, pair_eq_same}
 use Rattle.overlay_geometry.proofs.laws.lists.Lists.{AllByRecursion-at, Has, Has-append_left, Has-append_right, Has-from_list_any, list_any-from_Has, list_all-at}
 use Rattle.overlay_geometry.proofs.laws.lists.Elements.{Contains-from_Has, Has-from_Contains, Has-append_out}
-use Rattle.overlay_split.specs.ExactInput.{has_point}
+use Rattle.overlay_cuts.specs.ExactInput.{has_point}
 use Rattle.overlay_snapping.specs.Pixels.{meets_pixel}
 use Rattle.overlay_snapping.specs.Chains.{rounded_crossings, given_points, passes_by, IsHot, rounded, passed, Moves, passes, IsChainPoint, IsCutAt, moving, staying, IsChain, along_cmp}
 

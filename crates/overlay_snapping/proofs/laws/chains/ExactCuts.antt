@@ -13,14 +13,14 @@ use Rattle.overlay_intersections.specs.Crossing.{is_exact}
 use Rattle.overlay_intersections.specs.Marks.{settling, marks_by, cross_inexactly}
 use Rattle.overlay_intersections.specs.PassMarks.{marks_on, is_rounded}
 use Rattle.overlay_intersections.proofs.laws.crossings.AnswerMarks.{end_cases}
-use Rattle.overlay_split.specs.Nearness.{whole_point, IsNear, reach, reach_of_pass}
-use Rattle.overlay_split.proofs.laws.nearness.Distances.{IsNear-start, IsNear-end}
-use Rattle.overlay_split.proofs.laws.nearness.NearMarks.{marks_of_pass_are_near}
-use Rattle.overlay_split.specs.ExactInput.{special_points}
-use Rattle.overlay_split.proofs.laws.planar.ExactAnswers.{special_marks}
-use Rattle.overlay_split.proofs.laws.planar.ExactInputs.{special_end, special_mark}
-use Rattle.overlay_split.proofs.laws.planar.ExactMarks.{In, In-exact, end_a, end_b, marks_on-IsMarked, IsMarked-marks_on}
-use Rattle.overlay_split.proofs.laws.planar.Meetings.{MarksAt-inside}
+use Rattle.overlay_cuts.specs.Nearness.{whole_point, IsNear, reach, reach_of_pass}
+use Rattle.overlay_cuts.proofs.laws.nearness.Distances.{IsNear-start, IsNear-end}
+use Rattle.overlay_cuts.proofs.laws.nearness.NearMarks.{marks_of_pass_are_near}
+use Rattle.overlay_cuts.specs.ExactInput.{special_points}
+use Rattle.overlay_cuts.proofs.laws.planar.ExactAnswers.{special_marks}
+use Rattle.overlay_cuts.proofs.laws.planar.ExactInputs.{special_end, special_mark}
+use Rattle.overlay_cuts.proofs.laws.planar.ExactMarks.{In, In-exact, end_a, end_b, marks_on-IsMarked, IsMarked-marks_on}
+use Rattle.overlay_cuts.proofs.laws.planar.Meetings.{MarksAt-inside}
 use Rattle.overlay_snapping.specs.Chains.{rounded_crossings, IsHot, rounded, passed, Moves, passes, IsChainPoint, IsCutAt, moving, staying, AreSnapCuts, AreDecided}
 use Rattle.overlay_snapping.proofs.laws.chains.MarkPoints.{Has-crossings_by_out, inexact_parts, chain_points_are_ends_and_marks}
 

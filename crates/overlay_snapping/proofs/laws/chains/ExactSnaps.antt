@@ -5,9 +5,9 @@ use Rattle.overlay_base.specs.Segments.{WholeSegment, are_ordered}
 use Rattle.overlay_base.proofs.laws.joins.Maps.{are_ordered-join}
 use Rattle.overlay_intersections.specs.Marks.{settling}
 use Rattle.overlay_intersections.specs.PassMarks.{marks_on}
-use Rattle.overlay_split.specs.ExactInput.{is_exact_input, count_along, lies_on_input, KeepsCounts}
-use Rattle.overlay_split.specs.Pass.{pass}
-use Rattle.overlay_split.proofs.laws.planar.ExactInputs.{join_not_rounded, count_along-pass, pass_on_input, exact_means}
+use Rattle.overlay_cuts.specs.ExactInput.{is_exact_input, count_along, lies_on_input, KeepsCounts}
+use Rattle.overlay_cuts.specs.Pass.{pass}
+use Rattle.overlay_cuts.proofs.laws.planar.ExactInputs.{join_not_rounded, count_along-pass, pass_on_input, exact_means}
 use Rattle.overlay_snapping.specs.Chains.{IsSnapped}
 use Rattle.overlay_snapping.specs.Laws.{ExactSnapIsPass}
 use Rattle.overlay_snapping.specs.SnapOf.{reach_of_snap}

@@ -14,9 +14,9 @@ use Rattle.overlay_intersections.specs.PassMarks.{marks_on}
 use Rattle.overlay_intersections.proofs.laws.crossings.AnswerMarks.{end_cases}
 use Rattle.overlay_intersections.proofs.laws.crossings.ExactCrossings.{exact_settling_point, exact_by_lines}
 use Rattle.overlay_intersections.proofs.laws.marks.Marks.{IsFree, IsFree-marks_on}
-use Rattle.overlay_split.proofs.laws.planar.Meetings.{MarksAt, MarksAt-end, MarksAt-cross, crossing_not_collinear, are_collinear-trans, are_collinear_symmetric}
-use Rattle.overlay_split.proofs.laws.planar.ExactMarks.{In, In-ordered, end_a, end_b, MarksAt-marks_by}
-use Rattle.overlay_split.proofs.laws.planar.WholeCrossings.{IsCrossingPoint-inside, exact_ordered_mark}
+use Rattle.overlay_cuts.proofs.laws.planar.Meetings.{MarksAt, MarksAt-end, MarksAt-cross, crossing_not_collinear, are_collinear-trans, are_collinear_symmetric}
+use Rattle.overlay_cuts.proofs.laws.planar.ExactMarks.{In, In-ordered, end_a, end_b, MarksAt-marks_by}
+use Rattle.overlay_cuts.proofs.laws.planar.WholeCrossings.{IsCrossingPoint-inside, exact_ordered_mark}
 use Rattle.overlay_snapping.specs.Chains.{given_points, whole_crossings}
 use Rattle.overlay_snapping.proofs.laws.chains.MarkPoints.{Has-marks_on, Has-crossings_by_out}
 

@@ -11,9 +11,9 @@ use Rattle.overlay_geometry.proofs.laws.lists.Elements.{Contains-from_Has, Has-f
 use Rattle.overlay_base.specs.Windings.{empty}
 use Rattle.overlay_base.specs.Segments.{WholeSegment, pairs}
 use Rattle.overlay_intersections.specs.MarkOf.{Mark, points_at}
-use Rattle.overlay_split.specs.Pass.{EachMark}
+use Rattle.overlay_cuts.specs.Pass.{EachMark}
 use Rattle.std.specs.List.Sorted.{IsStrictlySortedBy}
-use Rattle.overlay_split.specs.CutOf.{AreMarksBy, AreCutMarks}
+use Rattle.overlay_cuts.specs.CutOf.{AreMarksBy, AreCutMarks}
 use Rattle.overlay_snapping.specs.Chains.{IsCutAt, AreCutsBetween, AreSnapCuts}
 use Rattle.overlay_snapping.specs.CutsOf.{AreCuts}
 use Rattle.overlay_snapping.proofs.laws.chains.Orders.{same_points}

@@ -19,7 +19,7 @@ use Rattle.overlay_intersections.proofs.laws.crossings.AnswerMarks.{end_cases}
 use Rattle.overlay_intersections.proofs.laws.crossings.Crossings.{do_cross-swap}
 use Rattle.overlay_intersections.proofs.laws.crossings.CrossingLaws.{no_end_of_both, exact_is_on_both_lines, target_does_not_matter, points_lie_in_both_boxes}
 use Rattle.overlay_intersections.proofs.laws.marks.Marks.{marks_at_crossing, marks_at_ends}
-use Rattle.overlay_split.proofs.laws.planar.ExactMarks.{In-ordered}
+use Rattle.overlay_cuts.proofs.laws.planar.ExactMarks.{In-ordered}
 use Rattle.overlay_snapping.specs.Chains.{crossings_by, rounded_crossings, whole_crossings, given_points, rounded, passed, IsChainPoint}
 use Rattle.overlay_snapping.specs.Laws.{RoundedAreMarksOff, ChainPointsAreEndsAndMarks}
 

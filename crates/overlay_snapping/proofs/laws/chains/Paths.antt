@@ -17,10 +17,10 @@ use Rattle.overlay_base.specs.Segments.{pairs, ends}
 use Rattle.overlay_base.specs.Join.{join}
 use Rattle.overlay_intersections.proofs.laws.crossings.AnswerMarks.{end_cases}
 use Rattle.overlay_intersections.proofs.laws.marks.Marks.{Differ, IsRoundedPoint, rounded_on_pair}
-use Rattle.overlay_split.specs.Path.{columns_of, next_point, last_point, column_path, path_from, path}
-use Rattle.overlay_split.proofs.laws.paths.Paths.{all_of, all_of-columns_of, column_path_has, steps_of_path}
-use Rattle.overlay_split.proofs.laws.paths.Monotone.{Rises, Falls}
-use Rattle.overlay_split.proofs.laws.paths.Potentials.{runs_up, runs_down}
+use Rattle.overlay_cuts.specs.Path.{columns_of, next_point, last_point, column_path, path_from, path}
+use Rattle.overlay_cuts.proofs.laws.paths.Paths.{all_of, all_of-columns_of, column_path_has, steps_of_path}
+use Rattle.overlay_cuts.proofs.laws.paths.Monotone.{Rises, Falls}
+use Rattle.overlay_cuts.proofs.laws.paths.Ends.{runs_up, runs_down}
 use Rattle.overlay_snapping.specs.Pixels.{MeetsPixel, is_narrow, meets_pixel}
 use Rattle.overlay_snapping.specs.Chains.{whole_crossings, given_points, Moves, IsChainPoint, IsCutAt, moving, staying, along_cmp, comes_before, IsChain, AreChains, chain_pieces}
 use Rattle.overlay_snapping.specs.Laws.{PathIsChain, SnappedIsOne}

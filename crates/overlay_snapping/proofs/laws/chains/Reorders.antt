@@ -15,7 +15,7 @@ use Rattle.overlay_base.specs.Sums.{gathered}
 use Rattle.overlay_base.proofs.laws.lists.Monoids.{gathered-IsPermutation}
 use Rattle.overlay_base.proofs.laws.joins.Bags.{windings_add, winding_at-nil, winding_at-append}
 use Rattle.overlay_base.proofs.laws.joins.Maps.{join_from_windings}
-use Rattle.overlay_split.specs.Path.{pieces_along}
+use Rattle.overlay_cuts.specs.Path.{pieces_along}
 use Rattle.overlay_snapping.specs.Chains.{crossings_by, rounded_crossings, whole_crossings, given_points, IsHot, rounded, passed, Moves, passes, IsChainPoint, IsCutAt, moving, staying, IsChain, AreChains, chain_pieces}
 use Rattle.overlay_snapping.specs.Laws.{SnappedIgnoresOrder}
 use Rattle.overlay_snapping.proofs.laws.chains.MarkPoints.{Has-crossings_by, Has-crossings_by_out}

@@ -21,26 +21,26 @@ use Rattle.overlay_base.specs.Segments.{WholeSegment, pairs, ends, are_ordered, 
 use Rattle.overlay_base.proofs.laws.geometry.Apart.{are_apart_parts}
 use Rattle.overlay_base.proofs.laws.joins.Functionals.{balance-join}
 use Rattle.overlay_base.proofs.laws.joins.Maps.{are_ordered-join, is_map-join}
-use Rattle.overlay_split.specs.DataPass.{data_after_passes}
-use Rattle.overlay_split.specs.Laws.{HooksKeep, HooksNameNoOther, NameNear}
-use Rattle.overlay_split.specs.Nearness.{LiesNear, LieNear, MarksLieNear, Fraction, point_along, IsNearSome, reach_of_run, LieInGivenBox}
-use Rattle.overlay_split.specs.Pass.{EachMark, cut_by, pass_by}
-use Rattle.overlay_split.specs.Places.{IsFar}
+use Rattle.overlay_cuts.specs.DataPass.{data_after_passes}
+use Rattle.overlay_cuts.specs.Laws.{HooksKeep, HooksNameNoOther, NameNear}
+use Rattle.overlay_cuts.specs.Nearness.{LiesNear, LieNear, MarksLieNear, Fraction, point_along, IsNearSome, reach_of_run, LieInGivenBox}
+use Rattle.overlay_cuts.specs.Pass.{EachMark, cut_by, pass_by}
+use Rattle.overlay_cuts.specs.Places.{IsFar}
 use Rattle.overlay_intersections.specs.Crossing.{is_exact}
 use Rattle.overlay_intersections.specs.Marks.{cross_inexactly}
-use Rattle.overlay_split.specs.Run.{Settings, after_passes}
-use Rattle.overlay_split.proofs.laws.nearness.Coverings.{cut_pieces_stay_near, joined_or_cancels}
-use Rattle.overlay_split.proofs.laws.nearness.Distances.{LiesNear-itself}
-use Rattle.overlay_split.proofs.laws.nearness.Nearness.{cut_stays_near}
-use Rattle.overlay_split.proofs.laws.nearness.Places.{cut_keeps_winding, join_keeps_winding}
-use Rattle.overlay_split.proofs.laws.passes.Splittable.{cut_is_splittable, is_splittable-join}
-use Rattle.overlay_split.proofs.laws.paths.Boxes.{boxes_are_meant, cut_stays_in_box}
-use Rattle.overlay_split.proofs.laws.paths.Balances.{cut_keeps_balance}
-use Rattle.overlay_split.proofs.laws.nearness.NamedData.{data_names_what_is_near}
-use Rattle.overlay_split.proofs.laws.passes.DataInvariants.{data_keeps_what_hooks_keep}
-use Rattle.overlay_split.proofs.laws.passes.DataPasses.{data_is_beside, arranged_data_is_unchanged}
-use Rattle.overlay_split.proofs.laws.planar.ExactInputs.{In-join}
-use Rattle.overlay_split.proofs.laws.planar.PlanarPasses.{is_planar-each}
+use Rattle.overlay_cuts.specs.Run.{Settings, after_passes}
+use Rattle.overlay_cuts.proofs.laws.nearness.Coverings.{cut_pieces_stay_near, joined_or_cancels}
+use Rattle.overlay_cuts.proofs.laws.nearness.Distances.{LiesNear-itself}
+use Rattle.overlay_cuts.proofs.laws.nearness.Nearness.{cut_stays_near}
+use Rattle.overlay_cuts.proofs.laws.nearness.Places.{cut_keeps_winding, join_keeps_winding}
+use Rattle.overlay_cuts.proofs.laws.passes.Splittable.{cut_is_splittable, is_splittable-join}
+use Rattle.overlay_cuts.proofs.laws.paths.Boxes.{boxes_are_meant, cut_stays_in_box}
+use Rattle.overlay_cuts.proofs.laws.paths.Balances.{cut_keeps_balance}
+use Rattle.overlay_cuts.proofs.laws.nearness.NamedData.{data_names_what_is_near}
+use Rattle.overlay_cuts.proofs.laws.passes.DataInvariants.{data_keeps_what_hooks_keep}
+use Rattle.overlay_cuts.proofs.laws.passes.DataPasses.{data_is_beside, arranged_data_is_unchanged}
+use Rattle.overlay_cuts.proofs.laws.planar.ExactInputs.{In-join}
+use Rattle.overlay_cuts.proofs.laws.planar.PlanarPasses.{is_planar-each}
 use Rattle.overlay_snapping.specs.Chains.{rounded_crossings, whole_crossings, given_points, IsHot, rounded, passed, Moves, passes, IsChainPoint, IsCutAt, moving, staying, AreCutsBetween, AreSnapCuts, AreDecided, IsSnapped}
 use Rattle.overlay_snapping.specs.SnapOf.{reach_of_snap, IsNearCancelledInSnap, among_given, among_pieces}
 use Rattle.overlay_snapping.proofs.laws.chains.MarkLists.{each_cut, cuts_are_free}

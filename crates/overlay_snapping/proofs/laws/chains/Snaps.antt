@@ -11,10 +11,10 @@ use Rattle.overlay_base.specs.Join.{join}
 use Rattle.overlay_base.proofs.laws.joins.Bags.{winding_at-gathered, windings_add, count_at}
 use Rattle.overlay_base.proofs.laws.joins.Maps.{join_from_windings}
 use Rattle.overlay_intersections.specs.PassMarks.{is_rounded}
-use Rattle.overlay_split.specs.Path.{path, pieces_along, pieces}
-use Rattle.overlay_split.specs.Pass.{cut_by}
-use Rattle.overlay_split.specs.Nearness.{IsNear, whole_point, point_along, MarksLieNear}
-use Rattle.overlay_split.proofs.laws.paths.Cuts.{gathered-cut, gathered-flat_map}
+use Rattle.overlay_cuts.specs.Path.{path, pieces_along, pieces}
+use Rattle.overlay_cuts.specs.Pass.{cut_by}
+use Rattle.overlay_cuts.specs.Nearness.{IsNear, whole_point, point_along, MarksLieNear}
+use Rattle.overlay_cuts.proofs.laws.paths.Cuts.{gathered-cut, gathered-flat_map}
 use Rattle.overlay_snapping.specs.Chains.{IsCutAt, AreSnapCuts, IsChain, AreChains, chain_pieces}
 use Rattle.overlay_snapping.specs.Laws.{CutsSnap}
 use Rattle.overlay_snapping.proofs.laws.pixels.Distances.{IsWithin-from_pixel}

@@ -14,7 +14,7 @@ use Rattle.overlay_base.proofs.laws.counts.Windings.{add-empty}
 use Rattle.overlay_base.proofs.laws.geometry.Pairs.{holds}
 use Rattle.overlay_base.proofs.laws.joins.Bags.{winding_at-here, winding_at-other, winding_at-absent}
 use Rattle.overlay_base.proofs.laws.joins.Members.{holds-join}
-use Rattle.overlay_split.proofs.laws.planar.ExactInputs.{In-join, count_along-join}
+use Rattle.overlay_cuts.proofs.laws.planar.ExactInputs.{In-join, count_along-join}
 use Rattle.overlay_snapping.specs.steps.Resolved.{AreResolved}
 
 -- a count whose pair no other has is the winding there

@@ -10,7 +10,7 @@ use Rattle.overlay_geometry.proofs.laws.geometry.Points.{turn_rotates, turn_same
 use Rattle.overlay_geometry.proofs.laws.lists.Lists.{Has}
 use Rattle.overlay_geometry.proofs.laws.integers.Tests.{by_sign}
 use Rattle.overlay_base.proofs.laws.geometry.Apart.{Opposite, do_cross_parts, do_cross_from}
-use Rattle.overlay_split.proofs.laws.planar.Meetings.{IsPart, IsPart-line}
+use Rattle.overlay_cuts.proofs.laws.planar.Meetings.{IsPart, IsPart-line}
 
 -- ---- signs
 

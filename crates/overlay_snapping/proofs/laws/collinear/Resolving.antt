@@ -16,15 +16,15 @@ use Rattle.overlay_intersections.specs.Crossing.{is_exact, snapping_point}
 use Rattle.overlay_intersections.specs.Marks.{settling, cross_inexactly}
 use Rattle.overlay_intersections.specs.PassMarks.{is_rounded}
 use Rattle.overlay_intersections.proofs.laws.crossings.ExactCrossings.{IsCrossingPoint-unique, from_both_lines, on_both_lines, exact_snapping_point, exact_by_lines}
-use Rattle.overlay_split.specs.ExactInput.{special_points, has_point, contains_pair, is_elementary, count_along}
-use Rattle.overlay_split.specs.Pass.{pass}
-use Rattle.overlay_split.proofs.laws.paths.Runs.{is_map-pass}
-use Rattle.overlay_split.proofs.laws.planar.Arranged.{none_passes}
-use Rattle.overlay_split.proofs.laws.planar.Meetings.{IsPart, IsPart-line, IsPart-line_back, same_tests}
-use Rattle.overlay_split.proofs.laws.planar.Parts.{IsPart-cross}
-use Rattle.overlay_split.proofs.laws.planar.ExactMarks.{In, In-ordered, In-exact}
-use Rattle.overlay_split.proofs.laws.planar.ExactInputs.{contains_from, contains_parts, elementary_clear, elementary_ordered}
-use Rattle.overlay_split.proofs.laws.planar.ExactAnswers.{pass_winding}
+use Rattle.overlay_cuts.specs.ExactInput.{special_points, has_point, contains_pair, is_elementary, count_along}
+use Rattle.overlay_cuts.specs.Pass.{pass}
+use Rattle.overlay_cuts.proofs.laws.paths.Maps.{is_map-pass}
+use Rattle.overlay_cuts.proofs.laws.planar.Unmarked.{none_passes}
+use Rattle.overlay_cuts.proofs.laws.planar.Meetings.{IsPart, IsPart-line, IsPart-line_back, same_tests}
+use Rattle.overlay_cuts.proofs.laws.planar.Parts.{IsPart-cross}
+use Rattle.overlay_cuts.proofs.laws.planar.ExactMarks.{In, In-ordered, In-exact}
+use Rattle.overlay_cuts.proofs.laws.planar.ExactInputs.{contains_from, contains_parts, elementary_clear, elementary_ordered}
+use Rattle.overlay_cuts.proofs.laws.planar.ExactAnswers.{pass_winding}
 use Rattle.overlay_snapping.specs.steps.Resolved.{AreResolved, IsClear}
 use Rattle.overlay_snapping.proofs.laws.collinear.Narrowings.{narrow, MeetsLine, Narrowed, part_of_itself, part_of_part}
 

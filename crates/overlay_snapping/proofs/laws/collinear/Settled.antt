@@ -12,14 +12,14 @@ use Rattle.overlay_base.specs.steps.Early.{magnitudes}
 use Rattle.overlay_base.proofs.laws.joins.OneValues.{same_without_data}
 use Rattle.overlay_intersections.specs.Marks.{settling}
 use Rattle.overlay_intersections.specs.PassMarks.{marks_on, is_rounded}
-use Rattle.overlay_split.specs.DataPass.{data_pass_by}
-use Rattle.overlay_split.specs.Path.{pieces}
-use Rattle.overlay_split.specs.Pass.{cut_by, pass_by, pass}
-use Rattle.overlay_split.specs.ExactInput.{special_points}
-use Rattle.overlay_split.proofs.laws.passes.DataPasses.{data_cut_is_beside}
-use Rattle.overlay_split.proofs.laws.planar.Arranged.{flat_map-same}
-use Rattle.overlay_split.proofs.laws.planar.ExactMarks.{IsMarked-marks_on}
-use Rattle.overlay_split.proofs.laws.planar.ExactAnswers.{special_marks}
+use Rattle.overlay_cuts.specs.DataPass.{data_pass_by}
+use Rattle.overlay_cuts.specs.Path.{pieces}
+use Rattle.overlay_cuts.specs.Pass.{cut_by, pass_by, pass}
+use Rattle.overlay_cuts.specs.ExactInput.{special_points}
+use Rattle.overlay_cuts.proofs.laws.passes.DataPasses.{data_cut_is_beside}
+use Rattle.overlay_cuts.proofs.laws.planar.Unmarked.{flat_map-same}
+use Rattle.overlay_cuts.proofs.laws.planar.ExactMarks.{IsMarked-marks_on}
+use Rattle.overlay_cuts.proofs.laws.planar.ExactAnswers.{special_marks}
 use Rattle.overlay_snapping.specs.Chains.{IsCutAt, AreSnapCuts, AreDecided}
 use Rattle.overlay_snapping.specs.steps.Resolved.{HasCut}
 use Rattle.overlay_snapping.proofs.laws.chains.ExactCuts.{none_decided, marks_are_cuts}

@@ -10,9 +10,9 @@ use Rattle.overlay_base.specs.Planar.{is_planar, is_splittable, is_arranged}
 use Rattle.overlay_base.specs.Segments.{WholeSegment, pairs, are_ordered}
 use Rattle.overlay_base.proofs.laws.joins.Maps.{are_ordered-join}
 use Rattle.overlay_intersections.specs.PassMarks.{is_rounded}
-use Rattle.overlay_split.specs.Nearness.{LieNear, Fraction, point_along, IsNearSome, LieInGivenBox}
-use Rattle.overlay_split.specs.Pass.{cut_by, pass_by}
-use Rattle.overlay_split.specs.Places.{IsFar}
+use Rattle.overlay_cuts.specs.Nearness.{LieNear, Fraction, point_along, IsNearSome, LieInGivenBox}
+use Rattle.overlay_cuts.specs.Pass.{cut_by, pass_by}
+use Rattle.overlay_cuts.specs.Places.{IsFar}
 use Rattle.overlay_snapping.specs.Chains.{AreSnapCuts, AreDecided, IsSnapped}
 use Rattle.overlay_snapping.specs.SnapOf.{reach_of_snap, IsNearCancelledInSnap, SnapChanges, SnapLeavesRange, in_join, in_pieces}
 use Rattle.overlay_snapping.specs.steps.Resolved.{IsSplitExactly}

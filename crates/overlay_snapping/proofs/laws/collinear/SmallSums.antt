@@ -19,14 +19,14 @@ use Rattle.overlay_base.proofs.laws.joins.Early.{magnitudes-cons}
 use Rattle.overlay_base.proofs.laws.joins.Ranges.{sums_leave, sums_leave-nil, sums_leave-same, sums_leave-other, join_leaves_range-sums}
 use Rattle.overlay_intersections.specs.Marks.{settling}
 use Rattle.overlay_intersections.specs.PassMarks.{marks_on, is_rounded}
-use Rattle.overlay_split.specs.Path.{piece, pieces_along, pieces}
-use Rattle.overlay_split.specs.Pass.{pieces_of, cut}
-use Rattle.overlay_split.proofs.laws.paths.Cuts.{gathered-cut}
-use Rattle.overlay_split.proofs.laws.paths.Paths.{Pairwise-distinct_in_order}
-use Rattle.overlay_split.proofs.laws.planar.Meetings.{MarksAt-inside}
-use Rattle.overlay_split.proofs.laws.planar.Parts.{IsMarked}
-use Rattle.overlay_split.proofs.laws.planar.ExactMarks.{In, In-ordered, marks_on-IsMarked}
-use Rattle.overlay_split.proofs.laws.planar.OrderedPaths.{ends_ordered, piece_forward, path_in_order}
+use Rattle.overlay_cuts.specs.Path.{piece, pieces_along, pieces}
+use Rattle.overlay_cuts.specs.Pass.{pieces_of, cut}
+use Rattle.overlay_cuts.proofs.laws.paths.Cuts.{gathered-cut}
+use Rattle.overlay_cuts.proofs.laws.paths.Paths.{Pairwise-distinct_in_order}
+use Rattle.overlay_cuts.proofs.laws.planar.Meetings.{MarksAt-inside}
+use Rattle.overlay_cuts.proofs.laws.planar.Parts.{IsMarked}
+use Rattle.overlay_cuts.proofs.laws.planar.ExactMarks.{In, In-ordered, marks_on-IsMarked}
+use Rattle.overlay_cuts.proofs.laws.planar.OrderedPaths.{ends_ordered, piece_forward, path_in_order}
 
 naturals_add : IsCommutativeMonoid ◌+◌ 0
 naturals_add = record { comm = λ a b. omega arith; assoc = λ a b c. omega arith; unit_left = λ a. omega arith }

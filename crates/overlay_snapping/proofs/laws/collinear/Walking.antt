@@ -15,10 +15,10 @@ use Rattle.overlay_base.specs.Windings.{Winding, add, swap_directions, inverse, 
 use Rattle.overlay_base.specs.Segments.{WholeSegment, pairs, counts, ends, are_ordered}
 use Rattle.overlay_base.proofs.laws.joins.Functionals.{whole_numbers_add}
 use Rattle.overlay_base.proofs.laws.lists.Monoids.{gathered-append, gathered-IsPermutation}
-use Rattle.overlay_split.specs.ExactInput.{contains_pair, count_along}
-use Rattle.overlay_split.proofs.laws.planar.Meetings.{are_collinear-trans, same_tests}
-use Rattle.overlay_split.proofs.laws.planar.ExactMarks.{In-ordered}
-use Rattle.overlay_split.proofs.laws.planar.ExactInputs.{contains_from, contains_parts}
+use Rattle.overlay_cuts.specs.ExactInput.{contains_pair, count_along}
+use Rattle.overlay_cuts.proofs.laws.planar.Meetings.{are_collinear-trans, same_tests}
+use Rattle.overlay_cuts.proofs.laws.planar.ExactMarks.{In-ordered}
+use Rattle.overlay_cuts.proofs.laws.planar.ExactInputs.{contains_from, contains_parts}
 use Rattle.overlay_snapping.specs.steps.Resolved.{AreResolved, HasCut}
 use Rattle.overlay_snapping.specs.steps.LineWalks.{End, place, gain, Walk, Jumps, Steps, Comes, stays, jumps, steps, Adds, Takes, ends_of_each}
 

@@ -12,7 +12,7 @@ use Rattle.overlay_geometry.proofs.laws.lists.Keys.{AllByRecursion-distinct_in_o
 use Rattle.overlay_base.specs.Segments.{WholeSegment, pairs, ends}
 use Rattle.overlay_intersections.specs.Crossing.{is_exact, settling_point}
 use Rattle.overlay_intersections.specs.Marks.{cross_inexactly}
-use Rattle.overlay_split.proofs.laws.paths.Paths.{Pairwise-distinct_in_order}
+use Rattle.overlay_cuts.proofs.laws.paths.Paths.{Pairwise-distinct_in_order}
 use Rattle.overlay_snapping.specs.Chains.{crossings_by, rounded_crossings, whole_crossings, given_points, rounded, passed, IsChainPoint, IsCutAt, moving, staying, IsSnapped}
 use Rattle.overlay_snapping.specs.Counts.{end_count, chain_points}
 use Rattle.overlay_snapping.specs.Laws.{ChainPointsAreListed, SnappedHasFew}

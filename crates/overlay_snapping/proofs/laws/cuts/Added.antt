@@ -17,7 +17,7 @@ use Rattle.overlay_intersections.specs.Marks.{settling}
 use Rattle.overlay_intersections.specs.MarkOf.{Mark, mark_of, marks_of, mark_points_of, AreMarks, points_at}
 use Rattle.overlay_intersections.specs.PassMarks.{marks_on}
 use Rattle.overlay_intersections.specs.declared.split.line_mark.LineMark.{LineMark}
-use Rattle.overlay_split.proofs.laws.passes.MarkBlocks.{AreRising, AreRising-from, points_at-own, points_at-other, IsFront, IsFront-from}
+use Rattle.overlay_cuts.proofs.laws.passes.MarkBlocks.{AreRising, AreRising-from, points_at-own, points_at-other, IsFront, IsFront-from}
 use Rattle.overlay_snapping.specs.Chains.{AreCutsBetween, AreDecided}
 use Rattle.overlay_snapping.specs.CutsOf.{AreCuts, AreCutsAt}
 

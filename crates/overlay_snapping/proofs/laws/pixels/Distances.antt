@@ -4,8 +4,8 @@ use Rattle.std.specs.Prelude.{ℤ, pos, ◌-ℤ◌, ◌*ℤ◌, ◌≤ℤ◌, �
 use Rattle.std.proofs.lemmas.Int.{ints}
 use Rattle.overlay_geometry.specs.Points.{Point}
 use Rattle.overlay_base.specs.Places.{RationalPoint}
-use Rattle.overlay_split.specs.Nearness.{whole_point, IsWithin}
-use Rattle.overlay_split.proofs.laws.nearness.Distances.{LiesNear-from_ends}
+use Rattle.overlay_cuts.specs.Nearness.{whole_point, IsWithin}
+use Rattle.overlay_cuts.proofs.laws.nearness.Distances.{LiesNear-from_ends}
 use Rattle.overlay_snapping.specs.Pixels.{IsInPixel}
 use Rattle.overlay_snapping.specs.Laws.{PiecesLieNear}
 

@@ -8,7 +8,7 @@ use Rattle.overlay_geometry.proofs.laws.integers.Products.{scaled_le}
 use Rattle.overlay_geometry.specs.Points.{Point, Pair, turn, step, is_ordered, is_between, is_in_box}
 use Rattle.overlay_geometry.proofs.laws.geometry.Points.{before, Before, ordered_x}
 use Rattle.overlay_geometry.proofs.laws.geometry.Polynomials.{as_D, diffs, D-eq, mul-nonneg, mul-le_left, mul-lt_left, cancel-le, cancel-lt, mul-neg_left, mul-neg_right}
-use Rattle.overlay_split.specs.Nearness.{Fraction}
+use Rattle.overlay_cuts.specs.Nearness.{Fraction}
 use Rattle.overlay_snapping.specs.Pixels.{MeetsPixel, extent, is_narrow, meets_pixel}
 use Rattle.overlay_snapping.specs.Laws.{InequalityIsMeant}
 use Rattle.overlay_snapping.proofs.laws.pixels.Offsets.{offset, IsRoundedTo, AreRoundedTo-from_pixel, AreRoundedTo-to_pixel}

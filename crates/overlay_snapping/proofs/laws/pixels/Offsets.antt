@@ -2,7 +2,7 @@
 use Rattle.std.proofs.Common.{◌≡◌, ℕ, arith}
 use Rattle.std.specs.Prelude.{ℤ, pos, ◌+ℤ◌, ◌-ℤ◌, ◌*ℤ◌, ◌≤ℤ◌, ◌<ℤ◌, neg_ℤ}
 use Rattle.overlay_geometry.specs.Points.{Point, Pair}
-use Rattle.overlay_split.specs.Nearness.{Fraction, point_along}
+use Rattle.overlay_cuts.specs.Nearness.{Fraction, point_along}
 use Rattle.overlay_snapping.specs.Pixels.{IsInPixel}
 use Rattle.overlay_geometry.proofs.laws.geometry.Polynomials.{as_D, diffs, D-eq}
 

@@ -8,7 +8,7 @@ use Rattle.overlay_geometry.specs.Points.{Point, Pair, step, turn, is_ordered, i
 use Rattle.overlay_geometry.proofs.laws.geometry.Points.{ordered_x, lies_on_parts}
 use Rattle.overlay_geometry.proofs.laws.geometry.Polynomials.{mul-le_left, as_D, diffs, D-eq}
 use Rattle.overlay_geometry.proofs.laws.integers.Tests.{lt-test, lt-test_false, eq-test}
-use Rattle.overlay_split.specs.Nearness.{Fraction, point_along}
+use Rattle.overlay_cuts.specs.Nearness.{Fraction, point_along}
 use Rattle.overlay_snapping.specs.Pixels.{IsInPixel, is_narrow, meets_pixel}
 use Rattle.overlay_snapping.specs.Chains.{given_points, passes_by, IsHot, passed, Moves, passes, IsChainPoint, IsCutAt, moving, staying, comes_before, IsPiece}
 use Rattle.overlay_snapping.proofs.laws.pixels.Inequality.{narrow_zero, leads}

@@ -8,7 +8,7 @@ use Rattle.overlay_geometry.specs.Points.{Point, Pair, step, turn, is_ordered, i
 use Rattle.overlay_geometry.proofs.laws.geometry.Points.{lies_on_parts}
 use Rattle.overlay_geometry.proofs.laws.geometry.Polynomials.{as_D, diffs, D-eq, mul-le_left, mul-neg_right, cancel-zero}
 use Rattle.overlay_geometry.proofs.laws.integers.Tests.{eq-test}
-use Rattle.overlay_split.specs.Nearness.{Fraction, point_along}
+use Rattle.overlay_cuts.specs.Nearness.{Fraction, point_along}
 use Rattle.overlay_snapping.specs.Pixels.{IsInPixel, is_narrow, meets_pixel}
 use Rattle.overlay_snapping.specs.Chains.{IsChainPoint, IsCutAt, moving, staying, comes_before, IsPiece}
 use Rattle.overlay_snapping.proofs.laws.pixels.Inequality.{inequality_is_meant}

@@ -16,7 +16,7 @@ use Rattle.overlay_intersections.proofs.laws.crossings.Crossings.{do_cross-swap,
 use Rattle.overlay_intersections.proofs.laws.crossings.CrossingLaws.{target_does_not_matter}
 use Rattle.overlay_intersections.proofs.laws.marks.Marks.{IsRoundedPoint, settled_on_target, settled_x, settled_y}
 use Rattle.overlay_intersections.proofs.laws.crossings.Rounding.{IsRoundedUp}
-use Rattle.overlay_split.specs.Nearness.{point_along}
+use Rattle.overlay_cuts.specs.Nearness.{point_along}
 use Rattle.overlay_snapping.specs.Pixels.{IsInPixel, meets_pixel}
 use Rattle.overlay_snapping.specs.Chains.{rounded_crossings, whole_crossings, given_points, IsHot, rounded, Moves, passes, IsChainPoint, IsCutAt, moving, staying, comes_before, IsPiece}
 use Rattle.overlay_snapping.proofs.laws.pixels.Inequality.{inequality_is_meant, leads}

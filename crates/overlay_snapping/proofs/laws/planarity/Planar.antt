@@ -18,16 +18,16 @@ use Rattle.overlay_base.specs.Join.{join}
 use Rattle.overlay_base.proofs.laws.geometry.Apart.{do_cross_parts, are_apart_from}
 use Rattle.overlay_base.proofs.laws.joins.Maps.{is_map-join}
 use Rattle.overlay_intersections.proofs.laws.marks.Marks.{lies_along}
-use Rattle.overlay_split.specs.Path.{piece, pieces_along}
-use Rattle.overlay_split.proofs.laws.paths.Cuts.{AllByRecursion-join}
-use Rattle.overlay_split.proofs.laws.planar.PlanarPasses.{is_planar-from}
+use Rattle.overlay_cuts.specs.Path.{piece, pieces_along}
+use Rattle.overlay_cuts.proofs.laws.paths.Cuts.{AllByRecursion-join}
+use Rattle.overlay_cuts.proofs.laws.planar.PlanarPasses.{is_planar-from}
 use Rattle.overlay_snapping.specs.Chains.{IsChainPoint, IsCutAt, moving, staying, along_cmp, comes_before, IsPiece, pair_between, IsChain, AreChains, chain_pieces, IsSnapped}
 use Rattle.overlay_snapping.specs.Laws.{PiecesAreApart, SnappedIsPlanar, SnappedLiesNear}
 use Rattle.overlay_snapping.proofs.laws.chains.MarkPixels.{ordered}
 use Rattle.overlay_snapping.proofs.laws.chains.Snaps.{cut_lies_near}
 use Rattle.overlay_intersections.specs.PassMarks.{is_rounded}
-use Rattle.overlay_split.specs.Nearness.{LiesNear, LieNear}
-use Rattle.overlay_split.proofs.laws.nearness.Distances.{LiesNear-from_ends}
+use Rattle.overlay_cuts.specs.Nearness.{LiesNear, LieNear}
+use Rattle.overlay_cuts.proofs.laws.nearness.Distances.{LiesNear-from_ends}
 use Rattle.std.proofs.lemmas.List.Elements.{All-from_recursion}
 use Rattle.overlay_snapping.proofs.laws.chains.Orders.{ends_differ, comes_before-trans, all_after}
 use Rattle.overlay_snapping.proofs.laws.planarity.Steps.{Cross, cross_swapped, cross_exchanged}

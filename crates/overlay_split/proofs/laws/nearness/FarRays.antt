@@ -14,9 +14,10 @@ use Rattle.overlay_geometry.proofs.laws.geometry.Polynomials.{as_D, diffs, D-eq,
 use Rattle.overlay_geometry.proofs.laws.geometry.Points.{before}
 use Rattle.overlay_geometry.proofs.laws.lists.Lists.{list_all-at, list_all-from_Has}
 use Rattle.overlay_base.proofs.laws.rays.Rays.{any_ray_will_do}
-use Rattle.overlay_split.specs.Nearness.{Fraction, IsNear, reach_of_run}
+use Rattle.overlay_cuts.specs.Nearness.{Fraction, IsNear, reach_of_run}
 use Rattle.overlay_split.specs.Laws.{FarLiesOnNone, RunKeepsRays}
-use Rattle.overlay_split.proofs.laws.nearness.Places.{IsFar-nearer, far_from, run_keeps_winding}
+use Rattle.overlay_split.proofs.laws.nearness.Places.{IsFar-nearer, run_keeps_winding}
+use Rattle.overlay_cuts.proofs.laws.nearness.Places.{far_from}
 use Rattle.overlay_geometry.proofs.laws.integers.Tests.{le_equal, le_weak}
 use Rattle.overlay_geometry.proofs.laws.integers.Products.{abs_nonneg}
 

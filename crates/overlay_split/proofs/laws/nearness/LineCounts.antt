@@ -14,11 +14,11 @@ use Rattle.overlay_base.proofs.laws.counts.Windings.{empty-add}
 use Rattle.overlay_base.proofs.laws.joins.Bags.{count_at, winding_at-here, winding_at-cons}
 use Rattle.overlay_base.proofs.laws.joins.Members.{counts-join}
 use Rattle.overlay_intersections.specs.PassMarks.{marks_on}
-use Rattle.overlay_split.specs.Pass.{pass, cut}
-use Rattle.overlay_split.specs.Run.{Settings, placing_of_pass, after_passes}
-use Rattle.overlay_split.specs.Nearness.{Cancels, joined_in, are_lines}
+use Rattle.overlay_cuts.specs.Pass.{pass, cut}
+use Rattle.overlay_cuts.specs.Run.{Settings, placing_of_pass, after_passes}
+use Rattle.overlay_cuts.specs.Nearness.{Cancels, joined_in, are_lines}
 use Rattle.overlay_split.specs.Laws.{LinesAreKept}
-use Rattle.overlay_split.proofs.laws.paths.PieceCounts.{counts-cut}
+use Rattle.overlay_cuts.proofs.laws.paths.PieceCounts.{counts-cut}
 use Rattle.overlay_split.proofs.laws.nearness.Coverings.{run_keeps_near}
 use Rattle.overlay_geometry.proofs.laws.lists.Elements.{Has-from_Contains}
 

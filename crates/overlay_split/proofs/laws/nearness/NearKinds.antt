@@ -16,16 +16,17 @@ use Rattle.overlay_base.proofs.laws.joins.Bags.{count_at, winding_at-nil, windin
 use Rattle.overlay_base.proofs.laws.joins.Maps.{are_ordered-map}
 use Rattle.overlay_intersections.specs.Marks.{Placing}
 use Rattle.overlay_intersections.specs.PassMarks.{marks_on}
-use Rattle.overlay_split.specs.Nearness.{LiesNear, LieNear, reach_of_pass, reach_of_run}
-use Rattle.overlay_split.specs.Path.{pieces}
-use Rattle.overlay_split.specs.Pass.{cut_by, pass_by, pass}
-use Rattle.overlay_split.specs.Run.{Settings, placing_of_pass, after_passes}
-use Rattle.overlay_split.proofs.laws.nearness.Distances.{LiesNear-itself}
-use Rattle.overlay_split.proofs.laws.nearness.NearMarks.{MarksAreNear, marks_of_pass_are_near}
-use Rattle.overlay_split.proofs.laws.nearness.Nearness.{HasNear, LieNear-to, LieNear-trans, pieces_lie_near}
-use Rattle.overlay_split.proofs.laws.paths.Cuts.{AllByRecursion-cut}
-use Rattle.overlay_split.proofs.laws.paths.PieceCounts.{counts_of_pieces}
-use Rattle.overlay_split.proofs.laws.paths.Runs.{is_map-after_passes}
+use Rattle.overlay_cuts.specs.Nearness.{LiesNear, LieNear, reach_of_pass, reach_of_run}
+use Rattle.overlay_cuts.specs.Path.{pieces}
+use Rattle.overlay_cuts.specs.Pass.{cut_by, pass_by, pass}
+use Rattle.overlay_cuts.specs.Run.{Settings, placing_of_pass, after_passes}
+use Rattle.overlay_cuts.proofs.laws.nearness.Distances.{LiesNear-itself}
+use Rattle.overlay_cuts.proofs.laws.nearness.NearMarks.{MarksAreNear, marks_of_pass_are_near}
+use Rattle.overlay_cuts.proofs.laws.nearness.Nearness.{HasNear, LieNear-to, pieces_lie_near}
+use Rattle.overlay_split.proofs.laws.nearness.Nearness.{LieNear-trans}
+use Rattle.overlay_cuts.proofs.laws.paths.Cuts.{AllByRecursion-cut}
+use Rattle.overlay_cuts.proofs.laws.paths.PieceCounts.{counts_of_pieces}
+use Rattle.overlay_cuts.proofs.laws.paths.Maps.{is_map-after_passes}
 
 abbrev pub of_kind : (Winding → Bool) → List WholeSegment → List WholeSegment
 of_kind kind segments = filter (λ s. kind s.count) segments

@@ -11,13 +11,14 @@ use Rattle.overlay_base.specs.Segments.{WholeSegment, pairs, are_ordered}
 use Rattle.overlay_base.specs.Places.{RationalPoint}
 use Rattle.overlay_base.proofs.laws.joins.Maps.{are_ordered-map}
 use Rattle.overlay_split.specs.Laws.{CutKeepsWhatWinds, CutKeepsWindingNearLines, RunKeepsWindingNearLines}
-use Rattle.overlay_split.specs.Nearness.{whole_point, IsNear, LieNear, reach_of_pass, reach_of_run}
-use Rattle.overlay_split.specs.Places.{IsFar, winds, that_wind}
-use Rattle.overlay_split.specs.Run.{Settings, placing_of_pass, after_passes}
+use Rattle.overlay_cuts.specs.Nearness.{whole_point, IsNear, LieNear, reach_of_pass, reach_of_run}
+use Rattle.overlay_cuts.specs.Places.{IsFar, winds, that_wind}
+use Rattle.overlay_cuts.specs.Run.{Settings, placing_of_pass, after_passes}
 use Rattle.overlay_split.proofs.laws.nearness.NearKinds.{pass_by_of_kind, run_of_kind}
-use Rattle.overlay_split.proofs.laws.nearness.Places.{IsApartFrom, IsFar-nearer, IsFar-result, IsFlat, far_from, join_keeps_winding, pass_by_winds, pass_winds}
-use Rattle.overlay_split.proofs.laws.paths.MarkedPairs.{EachMark-at}
-use Rattle.overlay_split.proofs.laws.paths.Runs.{is_map-after_passes}
+use Rattle.overlay_cuts.proofs.laws.nearness.Places.{IsApartFrom, IsFlat, far_from, join_keeps_winding, pass_by_winds}
+use Rattle.overlay_split.proofs.laws.nearness.Places.{IsFar-nearer, IsFar-result, pass_winds}
+use Rattle.overlay_cuts.proofs.laws.paths.MarkedPairs.{EachMark-at}
+use Rattle.overlay_cuts.proofs.laws.paths.Maps.{is_map-after_passes}
 
 -- ---- counts that wind
 

@@ -18,19 +18,19 @@ use Rattle.overlay_base.proofs.laws.joins.Members.{counts-join}
 use Rattle.overlay_base.proofs.laws.joins.Maps.{are_ordered-map}
 use Rattle.overlay_intersections.specs.Marks.{Placing}
 use Rattle.overlay_intersections.specs.PassMarks.{marks_on}
-use Rattle.overlay_split.specs.Path.{pieces}
-use Rattle.overlay_split.specs.Pass.{cut_by, pass_by, pass, cut}
-use Rattle.overlay_split.specs.Run.{Settings, placing_of_pass, after_passes}
-use Rattle.overlay_split.specs.Nearness.{Fraction, whole_point, point_along, IsNear, IsNearSome, reach_of_pass, reach_of_run, has_mask, with_mask}
+use Rattle.overlay_cuts.specs.Path.{pieces}
+use Rattle.overlay_cuts.specs.Pass.{cut_by, pass_by, pass, cut}
+use Rattle.overlay_cuts.specs.Run.{Settings, placing_of_pass, after_passes}
+use Rattle.overlay_cuts.specs.Nearness.{Fraction, whole_point, point_along, IsNear, IsNearSome, reach_of_pass, reach_of_run, has_mask, with_mask}
 use Rattle.overlay_split.specs.Laws.{CutKeepsLines, RunKeepsLines}
-use Rattle.overlay_split.proofs.laws.paths.MarkedPairs.{EachMark-at}
-use Rattle.overlay_split.proofs.laws.paths.Runs.{is_map-after_passes}
-use Rattle.overlay_split.proofs.laws.paths.Potentials.{ends_differ}
-use Rattle.overlay_split.proofs.laws.paths.PieceCounts.{counts_of_pieces, counts-cut}
-use Rattle.overlay_split.proofs.laws.nearness.Distances.{IsNear-from_point, LiesNear-itself}
-use Rattle.overlay_split.proofs.laws.nearness.NearMarks.{AreNear, MarksAreNear, marks_of_pass_are_near}
+use Rattle.overlay_cuts.proofs.laws.paths.MarkedPairs.{EachMark-at}
+use Rattle.overlay_cuts.proofs.laws.paths.Maps.{is_map-after_passes}
+use Rattle.overlay_cuts.proofs.laws.paths.Ends.{ends_differ}
+use Rattle.overlay_cuts.proofs.laws.paths.PieceCounts.{counts_of_pieces, counts-cut}
+use Rattle.overlay_cuts.proofs.laws.nearness.Distances.{IsNear-from_point, LiesNear-itself}
+use Rattle.overlay_cuts.proofs.laws.nearness.NearMarks.{AreNear, MarksAreNear, marks_of_pass_are_near}
 use Rattle.overlay_split.proofs.laws.nearness.NearKinds.{pass_by_of_kind, run_of_kind}
-use Rattle.overlay_split.proofs.laws.nearness.Coverings.{Has-cut, pieces_cover}
+use Rattle.overlay_cuts.proofs.laws.nearness.Coverings.{Has-cut, pieces_cover}
 use Rattle.overlay_split.proofs.laws.nearness.LineCounts.{IsLine, IsLine-inverse, is_not_empty-mask}
 
 -- ---- masks as a kind

@@ -3,10 +3,10 @@ use Rattle.std.proofs.Common.{◌≡◌, refl, sym, ap, ap₂, ◌∙◌, arith,
 use Rattle.overlay_base.specs.Segments.{WholeSegment}
 use Rattle.overlay_intersections.specs.Marks.{Placing}
 use Rattle.overlay_intersections.specs.PassMarks.{is_rounded}
-use Rattle.overlay_split.specs.Run.{Settings, placing_of_pass, after_passes}
-use Rattle.overlay_split.specs.Nearness.{root, reach, reach_of_pass, reach_of_run, reach_of_passes}
+use Rattle.overlay_cuts.specs.Run.{Settings, placing_of_pass, after_passes}
+use Rattle.overlay_cuts.specs.Nearness.{root, reach, reach_of_pass, reach_of_run, reach_of_passes}
 use Rattle.overlay_split.proofs.laws.nearness.Nearness.{reach_is_bounded}
-use Rattle.overlay_split.proofs.laws.nearness.NearMarks.{root-bounds, root-below}
+use Rattle.overlay_cuts.proofs.laws.nearness.NearMarks.{root-bounds, root-below}
 
 -- no pass, no way
 pub run-reach-none : (settings : Settings) (given : List WholeSegment) → 0 ≡ reach_of_run settings given 0

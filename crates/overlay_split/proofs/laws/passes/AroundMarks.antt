@@ -14,9 +14,9 @@ use Rattle.overlay_base.specs.Segments.{WholeSegment, pairs}
 use Rattle.overlay_base.specs.SegmentOf.{ends_of, segment_of, segments_of, pairs_in}
 use Rattle.overlay_base.specs.declared.segm.segment.Segment.{Segment}
 use Rattle.overlay_intersections.specs.MarkOf.{Mark, points_at}
-use Rattle.overlay_split.specs.CutOf.{AreMarksBy}
+use Rattle.overlay_cuts.specs.CutOf.{AreMarksBy}
 use Rattle.overlay_split.specs.steps.ChangedBoxes.{LiesInWith, AreAround}
-use Rattle.overlay_split.proofs.laws.passes.MarkBlocks.{AreRising, IsFront, IsFront-from, points_at-below}
+use Rattle.overlay_cuts.proofs.laws.passes.MarkBlocks.{AreRising, IsFront, IsFront-from, points_at-below}
 
 -- a pair lies in one of the rectangles, with its marks
 abbrev pub IsAround : (Pair → List Point) → List Rect → Pair → Type 0

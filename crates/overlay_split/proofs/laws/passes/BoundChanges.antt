@@ -11,11 +11,11 @@ use Rattle.overlay_intersections.specs.MarkOf.{marks_of, AreMarks}
 use Rattle.overlay_intersections.specs.Marks.{Placing}
 use Rattle.overlay_intersections.specs.PassMarks.{marks_on}
 use Rattle.overlay_intersections.specs.declared.split.line_mark.LineMark.{LineMark}
-use Rattle.overlay_split.specs.CutOf.{ForMarks}
-use Rattle.overlay_split.specs.Pass.{pass}
+use Rattle.overlay_cuts.specs.CutOf.{ForMarks}
+use Rattle.overlay_cuts.specs.Pass.{pass}
 use Rattle.overlay_split.specs.steps.ChangedBoxes.{AreAround, AreFromLeft, AreApartElsewhere, BoundChange, rects_of}
 use Rattle.overlay_split.proofs.laws.passes.ChangedPairs.{apart_elsewhere}
-use Rattle.overlay_split.proofs.laws.passes.Ready.{AreMarksBy-pass}
+use Rattle.overlay_cuts.proofs.laws.passes.Ready.{AreMarksBy-pass}
 
 pub bound_change : {C I D : Type 0} {m : _} {w : _} {o : _} {e : _} {p : _} (placing : Placing) (xs ys : List (Segment C I D m w o e p)) (marks : List (LineMark I)) (boxes : Option (Vec (IntRect I) Global)) → IsTrue (is_map (segments_of xs)) →
     AreMarks placing (segments_of xs) (marks_of w.whole marks) → IfSome boxes (λ b. ForMarks xs marks (λ on. AreAround on (pairs_in xs) (rects_of w.whole b.items))) → IfSome boxes (λ b. AreFromLeft (rects_of w.whole b.items)) →

@@ -15,13 +15,13 @@ use Rattle.overlay_base.proofs.laws.geometry.Apart.{are_apart-back, apart_in_x, 
 use Rattle.overlay_base.proofs.laws.joins.Maps.{are_ordered-map}
 use Rattle.overlay_intersections.specs.Marks.{Placing}
 use Rattle.overlay_intersections.specs.PassMarks.{marks_on}
-use Rattle.overlay_split.specs.Path.{pieces}
-use Rattle.overlay_split.specs.Pass.{pieces_of, cut, pass}
+use Rattle.overlay_cuts.specs.Path.{pieces}
+use Rattle.overlay_cuts.specs.Pass.{pieces_of, cut, pass}
 use Rattle.overlay_split.specs.steps.ChangedBoxes.{box_of, is_near, LiesIn, AreAround, AreApartElsewhere}
-use Rattle.overlay_split.proofs.laws.paths.Boxes.{AtEnds, pieces_have}
-use Rattle.overlay_split.proofs.laws.paths.Cuts.{AllByRecursion-cut, AllByRecursion-join}
-use Rattle.overlay_split.proofs.laws.planar.Arranged.{pieces_unmarked}
-use Rattle.overlay_split.proofs.laws.planar.ExactMarks.{In-ordered}
+use Rattle.overlay_cuts.proofs.laws.paths.Boxes.{AtEnds, pieces_have}
+use Rattle.overlay_cuts.proofs.laws.paths.Cuts.{AllByRecursion-cut, AllByRecursion-join}
+use Rattle.overlay_cuts.proofs.laws.planar.Unmarked.{pieces_unmarked}
+use Rattle.overlay_cuts.proofs.laws.planar.ExactMarks.{In-ordered}
 use Rattle.overlay_split.proofs.laws.passes.UnmarkedPairs.{unmarked_are_apart}
 
 -- ---- a pair and a rectangle

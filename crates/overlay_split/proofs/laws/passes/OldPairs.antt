@@ -13,13 +13,13 @@ use Rattle.overlay_base.specs.Segments.{WholeSegment, pairs, is_map}
 use Rattle.overlay_base.proofs.laws.joins.Maps.{are_ordered-map}
 use Rattle.overlay_intersections.specs.Marks.{Placing}
 use Rattle.overlay_intersections.specs.PassMarks.{marks_on}
-use Rattle.overlay_split.specs.Path.{columns_of, next_point, last_point, column_path, path_from, path, piece, pieces_along, pieces}
-use Rattle.overlay_split.specs.Pass.{pieces_of, cut, pass}
+use Rattle.overlay_cuts.specs.Path.{columns_of, next_point, last_point, column_path, path_from, path, piece, pieces_along, pieces}
+use Rattle.overlay_cuts.specs.Pass.{pieces_of, cut, pass}
 use Rattle.overlay_split.specs.Laws.{IsAtMark, PassHasOldOrMarked}
-use Rattle.overlay_split.proofs.laws.paths.Paths.{all_of, AreColumns, AreColumns-columns_of, all_of-columns_of, Steps-append, last_point_has, column_path_has}
-use Rattle.overlay_split.proofs.laws.paths.Cuts.{AllByRecursion-cut, AllByRecursion-join}
-use Rattle.overlay_split.proofs.laws.planar.Arranged.{pieces_unmarked}
-use Rattle.overlay_split.proofs.laws.planar.ExactMarks.{In-ordered}
+use Rattle.overlay_cuts.proofs.laws.paths.Paths.{all_of, AreColumns, AreColumns-columns_of, all_of-columns_of, Steps-append, last_point_has, column_path_has}
+use Rattle.overlay_cuts.proofs.laws.paths.Cuts.{AllByRecursion-cut, AllByRecursion-join}
+use Rattle.overlay_cuts.proofs.laws.planar.Unmarked.{pieces_unmarked}
+use Rattle.overlay_cuts.proofs.laws.planar.ExactMarks.{In-ordered}
 use Rattle.overlay_split.proofs.laws.passes.UnmarkedPairs.{none_distinct}
 
 -- ---- each step of a path has an end at a mark, where there is one

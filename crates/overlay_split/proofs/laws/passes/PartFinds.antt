@@ -15,7 +15,7 @@ use Rattle.overlay_intersections.specs.MarkOf.{Mark, mark_of, marks_of, AreMarks
 use Rattle.overlay_intersections.specs.Marks.{Placing}
 use Rattle.overlay_intersections.specs.PassMarks.{is_rounded}
 use Rattle.overlay_intersections.specs.declared.split.line_mark.LineMark.{LineMark}
-use Rattle.overlay_split.specs.PassLooks.{wide_looks}
+use Rattle.overlay_cuts.specs.PassLooks.{wide_looks}
 use Rattle.overlay_split.specs.steps.ChangedBoxes.{is_near, near_from, renamed, AreApartElsewhere}
 use Rattle.overlay_split.proofs.laws.passes.PartLooks.{list_looks-part, wide_looks-part}
 use Rattle.overlay_split.proofs.laws.passes.PartMarks.{marks_of_part, part_size}

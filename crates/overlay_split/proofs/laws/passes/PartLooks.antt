@@ -8,7 +8,7 @@ use Rattle.overlay_geometry.proofs.laws.lists.Lists.{sum_by-filter_le}
 use Rattle.overlay_grid.specs.Grid.{Layout, fragments}
 use Rattle.overlay_grid.specs.GridLooks.{all_fragments, fragments_meet, border_contacts, fragment_looks, grid_looks}
 use Rattle.overlay_intersections.specs.Looked.{count_twos, boxes_meet, x_ranges_meet, list_looks, tree_looks}
-use Rattle.overlay_split.specs.PassLooks.{wide_looks}
+use Rattle.overlay_cuts.specs.PassLooks.{wide_looks}
 
 -- ---- some elements of a list, in order
 

@@ -14,7 +14,7 @@ use Rattle.overlay_intersections.specs.MarkOf.{Mark, points_at, AreMarks}
 use Rattle.overlay_intersections.specs.Marks.{Placing}
 use Rattle.overlay_intersections.specs.PassMarks.{marks_on}
 use Rattle.overlay_split.specs.steps.ChangedBoxes.{is_near, near_from, renamed, AreApartElsewhere}
-use Rattle.overlay_split.proofs.laws.passes.MarkBlocks.{points_at-own, points_at-other}
+use Rattle.overlay_cuts.proofs.laws.passes.MarkBlocks.{points_at-own, points_at-other}
 use Rattle.overlay_split.proofs.laws.passes.UnmarkedPairs.{part_has_the_marks}
 
 -- ---- the indexes of the pairs that are near

@@ -14,13 +14,13 @@ use Rattle.overlay_base.specs.Segments.{WholeSegment}
 use Rattle.overlay_intersections.specs.Marks.{Placing}
 use Rattle.overlay_intersections.specs.MarkOf.{Mark, AreMarks, points_at}
 use Rattle.overlay_intersections.specs.PassMarks.{marks_on, mark_count}
-use Rattle.overlay_split.specs.Path.{columns_of, path_from, path, pieces_along, pieces}
-use Rattle.overlay_split.specs.Pass.{cut_by, cut}
-use Rattle.overlay_split.proofs.laws.paths.Paths.{all_of-columns_of}
+use Rattle.overlay_cuts.specs.Path.{columns_of, path_from, path, pieces_along, pieces}
+use Rattle.overlay_cuts.specs.Pass.{cut_by, cut}
+use Rattle.overlay_cuts.proofs.laws.paths.Paths.{all_of-columns_of}
 use Rattle.overlay_split.proofs.laws.paths.Monotone.{length-path_from}
 use Rattle.overlay_split.proofs.laws.paths.Potentials.{distinct-marks_on}
-use Rattle.overlay_split.proofs.laws.passes.CutWalks.{read_place}
-use Rattle.overlay_split.proofs.laws.passes.MarkBlocks.{points_at-own, points_at-other, strictly}
+use Rattle.overlay_cuts.proofs.laws.passes.CutWalks.{read_place}
+use Rattle.overlay_cuts.proofs.laws.passes.MarkBlocks.{points_at-own, points_at-other, strictly}
 
 -- ---- the pieces of a cut
 

@@ -6,10 +6,10 @@ use Rattle.overlay_base.specs.Segments.{WholeSegment}
 use Rattle.overlay_base.specs.EdgeData.{DataSegment, Hooks}
 use Rattle.overlay_base.proofs.laws.joins.Members.{length-join_le}
 use Rattle.overlay_intersections.specs.Marks.{Placing}
-use Rattle.overlay_split.specs.Pass.{cut}
-use Rattle.overlay_split.specs.DataPass.{data_store_before}
-use Rattle.overlay_split.specs.Nearness.{joined_in}
-use Rattle.overlay_split.specs.Run.{Settings, placing_of_pass, after_passes, goes_on, leaves_range_within}
+use Rattle.overlay_cuts.specs.Pass.{cut}
+use Rattle.overlay_cuts.specs.DataPass.{data_store_before}
+use Rattle.overlay_cuts.specs.Nearness.{joined_in}
+use Rattle.overlay_cuts.specs.Run.{Settings, placing_of_pass, after_passes, goes_on, leaves_range_within}
 use Rattle.overlay_split.specs.RunLengths.{JoinsAtMost, IsFirstBeyond}
 use Rattle.overlay_split.specs.steps.IsAt.{IsAt}
 use Rattle.overlay_split.proofs.laws.nearness.Coverings.{joined_is}

@@ -1,7 +1,7 @@
 -- How many pairs a pass compares by what it goes over, and a run from one pass to the next.
-use Rattle.std.proofs.Common.{◌≡◌, sym, ap, subst, ◌∙◌, ℕ, suc, ◌+◌, ◌-◌, ◌≤◌, arith, List, [], ◌∷◌, length, Bool, true, false, cond, inl, inr}
+use Rattle.std.proofs.Common.{◌≡◌, sym, subst, ◌∙◌, ℕ, suc, ◌+◌, ◌-◌, ◌≤◌, arith, List, [], ◌∷◌, length, Bool, true, false, cond, inl, inr}
 use Rattle.std.specs.Prelude.{Option, None, min, ◌^◌}
-use Rattle.std.proofs.lemmas.Bool.{both_ways, cases_Bool}
+use Rattle.std.proofs.lemmas.Bool.{cases_Bool}
 use Rattle.overlay_geometry.specs.Points.{Pair}
 use Rattle.overlay_geometry.specs.Sorting.{distinct_in_order, stably_sorted}
 use Rattle.overlay_base.specs.Segments.{WholeSegment, pairs}
@@ -11,28 +11,12 @@ use Rattle.overlay_base.specs.declared.overlay_core.solver.Strategy.{Strategy}
 use Rattle.overlay_base.specs.declared.overlay_core.solver.Strategy.TheVariants.{List as ByList}
 use Rattle.overlay_grid.specs.Grid.{Layout}
 use Rattle.overlay_intersections.specs.Looked.{count_twos, x_ranges_meet, list_looks}
-use Rattle.overlay_split.specs.Run.{Settings, after_passes}
-use Rattle.overlay_split.specs.PassLooks.{wide_looks, pass_looks, ArePassLooks}
+use Rattle.overlay_cuts.specs.Run.{Settings, after_passes}
+use Rattle.overlay_cuts.specs.PassLooks.{wide_looks, pass_looks, ArePassLooks}
 use Rattle.overlay_split.specs.RunLooks.{run_looks, AreRunLooks}
 use Rattle.overlay_grid.specs.GridFor.{IsGridFor}
 
 -- ---- a pass
-
-pub ArePassLooks-listed : (strategy : Strategy) (grid : Option Layout) (ps : List Pair) (old new : ℕ) → list_splits strategy (length ps) ≡ true → new ≡ min (old + count_twos x_ranges_meet ps) (2 ^ 128 - 1) → ArePassLooks strategy grid ps old new
-unfolding pass_looks list_looks
-ArePassLooks-listed strategy grid ps old new e h =
-    let looks : pass_looks strategy grid ps ≡ count_twos x_ranges_meet ps = ap (λ (b : Bool). cond b (list_looks ps) (wide_looks grid ps)) e in
-    let is : new ≡ min (old + pass_looks strategy grid ps) (2 ^ 128 - 1) = h ∙ ap (λ (n : ℕ). min (old + n) (2 ^ 128 - 1)) (sym looks) in
-    record { most = no_more new _ (2 ^ 128 - 1) is; exact = λ t. is }
-  where
-    no_more : (n m w : ℕ) → n ≡ min m w → n ≤ m
-    no_more n m w e = omega arith
-
-pub ArePassLooks-wide : (strategy : Strategy) (grid : Option Layout) (ps : List Pair) (old new : ℕ) → list_splits strategy (length ps) ≡ false → new ≤ old + wide_looks grid ps → ArePassLooks strategy grid ps old new
-unfolding pass_looks
-ArePassLooks-wide strategy grid ps old new e h =
-    let looks : pass_looks strategy grid ps ≡ wide_looks grid ps = ap (λ (b : Bool). cond b (list_looks ps) (wide_looks grid ps)) e in
-    record { most = subst (λ (n : ℕ). new ≤ old + n) (sym looks) h; exact = λ t. absurd (both_ways _ e (ap (λ (s : Strategy). list_splits s (length ps)) t)) }
 
 -- a pass over a part of the list, under another strategy than `List`
 pub ArePassLooks-fewer : (strategy : Strategy) (grid : Option Layout) (ps part : List Pair) (old new : ℕ) (is_list : Bool) → is_list ≡ list_splits strategy (length ps) → (strategy ≡ ByList → ⊥) → list_looks part ≤ list_looks ps → wide_looks grid part ≤ wide_looks grid ps →

@@ -17,32 +17,33 @@ use Rattle.overlay_base.specs.EdgeData.{DataSegment, Hooks, without_data, merge_
 use Rattle.overlay_base.specs.SegmentOf.{segment_of, segments_of, data_segments_of}
 use Rattle.overlay_base.specs.declared.segm.segment.Segment.{Segment}
 use Rattle.overlay_intersections.specs.Marks.{Placing, snapping, settling}
-use Rattle.overlay_split.specs.Pass.{cut, pass}
+use Rattle.overlay_cuts.specs.Pass.{cut, pass}
 use Rattle.overlay_intersections.specs.PassMarks.{is_rounded, mark_count}
-use Rattle.overlay_split.specs.DataPass.{data_cut, data_pass, data_after_passes, data_joined_in, IsStoppedRun}
-use Rattle.overlay_split.specs.Run.{Settings, placing_of_pass, radius_of_pass, after_passes, goes_on, has_marked, has_changed, IsPassCount, IsRun, leaves_range_within, LeavesRange}
+use Rattle.overlay_cuts.specs.DataPass.{data_cut, data_pass, data_after_passes, data_joined_in, IsStoppedRun}
+use Rattle.overlay_cuts.specs.Run.{Settings, placing_of_pass, radius_of_pass, after_passes, goes_on, has_marked, has_changed, IsPassCount, IsRun, leaves_range_within, LeavesRange}
 use Rattle.overlay_split.specs.steps.IsAt.{IsAt}
-use Rattle.overlay_split.specs.ExactInput.{is_exact_input, KeepsCounts}
-use Rattle.overlay_split.specs.Nearness.{StaysNear}
-use Rattle.overlay_split.specs.Places.{KeepsWinding}
-use Rattle.overlay_split.specs.Potential.{spread, potential}
-use Rattle.overlay_split.specs.Nearness.{reach_of_pass}
+use Rattle.overlay_cuts.specs.ExactInput.{is_exact_input, KeepsCounts}
+use Rattle.overlay_cuts.specs.Nearness.{StaysNear, reach_of_pass}
+use Rattle.overlay_cuts.specs.Places.{KeepsWinding}
+use Rattle.overlay_cuts.specs.Potential.{spread, potential}
 use Rattle.overlay_geometry.proofs.laws.geometry.Coordinates.{difference_bound, pair_parts, point_parts}
 use Rattle.overlay_base.proofs.laws.joins.Maps.{is_map-join}
 use Rattle.overlay_base.proofs.laws.joins.Rests.{is_splittable-parts}
 use Rattle.overlay_intersections.proofs.laws.marks.FoundMarks.{or_assoc, or_false}
-use Rattle.overlay_split.proofs.laws.paths.Runs.{is_map-after_passes, run_ends}
+use Rattle.overlay_cuts.proofs.laws.paths.Maps.{is_map-after_passes}
+use Rattle.overlay_split.proofs.laws.paths.Runs.{run_ends}
 use Rattle.overlay_split.proofs.laws.paths.Balances.{run_keeps_balance}
 use Rattle.overlay_split.proofs.laws.planar.ExactInputs.{exact_input_keeps_counts}
-use Rattle.overlay_split.proofs.laws.paths.Boxes.{stays_in_box}
+use Rattle.overlay_cuts.proofs.laws.paths.Boxes.{stays_in_box}
 use Rattle.overlay_split.proofs.laws.nearness.Coverings.{run_stays_near}
 use Rattle.overlay_split.proofs.laws.nearness.Nearness.{reach_of_pass-bounded}
 use Rattle.overlay_split.proofs.laws.nearness.Places.{run_keeps_winding}
 use Rattle.overlay_split.proofs.laws.paths.Potentials.{settling_lowers}
 use Rattle.overlay_split.proofs.laws.planar.PlanarRuns.{run_is_planar, run_is_one}
 use Rattle.overlay_split.proofs.laws.planar.Arranged.{arranged_is_unchanged}
-use Rattle.overlay_split.proofs.laws.passes.DataPasses.{data_after_passes-arranged}
-use Rattle.overlay_split.proofs.laws.passes.Splittable.{is_splittable-join, is_splittable-pass, settling_never_raises}
+use Rattle.overlay_cuts.proofs.laws.passes.DataPasses.{data_after_passes-arranged}
+use Rattle.overlay_cuts.proofs.laws.passes.Splittable.{is_splittable-join}
+use Rattle.overlay_split.proofs.laws.passes.Splittable.{is_splittable-pass, settling_never_raises}
 
 -- ---- where a run is
 

@@ -8,18 +8,13 @@ use Rattle.overlay_base.specs.EdgeData.{DataSegment, Hooks, without_data, IsRefu
 use Rattle.overlay_base.specs.declared.segm.fault.Fault.{Fault}
 use Rattle.overlay_base.proofs.laws.joins.Stops.{refused_leaves_range, refused_join_is_one}
 use Rattle.overlay_intersections.specs.PassMarks.{marks_on}
-use Rattle.overlay_split.specs.Pass.{cut}
-use Rattle.overlay_split.specs.Run.{Settings, placing_of_pass, leaves_range_within}
-use Rattle.overlay_split.specs.DataPass.{data_after_passes, data_joined_in, IsStoppedRun}
+use Rattle.overlay_cuts.specs.Pass.{cut}
+use Rattle.overlay_cuts.specs.Run.{Settings, placing_of_pass, leaves_range_within}
+use Rattle.overlay_cuts.specs.DataPass.{data_after_passes, data_joined_in, IsStoppedRun}
 use Rattle.overlay_split.specs.declared.split.fault.SplitFault.{SplitFault}
 use Rattle.overlay_split.specs.declared.split.fault.SplitFault.TheVariants.{Refused, TooManySegments}
 use Rattle.overlay_split.specs.Laws.{StoppedRunLeavesRange, StoppedRunIsOne}
-use Rattle.overlay_split.proofs.laws.passes.DataPasses.{bare-data_cut, data_is_beside}
-
--- what is said of the fault of a call is said of the fault that is passed on
-pub refused_by : {A F : Type 0} (r : Result A F) (x : F) {out : F} (P : Type 0) → IsErrAnd r (λ e. e ≡ x) → (x ≡ out → P) → IfErr r (λ fault. fault ≡ out → P)
-refused_by (Ok a) x P h f = tt
-refused_by (Err e) x P h f = λ i. f (sym h ∙ i)
+use Rattle.overlay_cuts.proofs.laws.passes.DataPasses.{bare-data_cut, data_is_beside}
 
 -- the fault of a refusal, or another one
 fault_in : SplitFault → Fault → Fault

@@ -18,7 +18,7 @@ use Rattle.overlay_geometry.proofs.laws.lists.Lists.{Has, Has-filter_out, filter
 use Rattle.overlay_geometry.proofs.laws.lists.Elements.{Contains-from_Has, Has-from_Contains}
 use Rattle.overlay_intersections.proofs.laws.marks.ApartPairs.{apart_have_no_mark, apart_are_exact}
 use Rattle.overlay_split.specs.Laws.{UnmarkedAreApart, PartHasTheMarks}
-use Rattle.overlay_split.proofs.laws.planar.Arranged.{none_passes}
+use Rattle.overlay_cuts.proofs.laws.planar.Unmarked.{none_passes}
 use Rattle.overlay_split.proofs.laws.paths.Potentials.{ordered_mark-swap}
 
 -- ---- two that put no mark on one another

@@ -8,11 +8,11 @@ use Rattle.overlay_base.specs.Segments.{WholeSegment, are_polygons}
 use Rattle.overlay_split.specs.Laws.{CutKeepsPolygons, RunKeepsPolygons}
 use Rattle.overlay_intersections.specs.Marks.{Placing}
 use Rattle.overlay_intersections.specs.PassMarks.{marks_on}
-use Rattle.overlay_split.specs.Pass.{cut_by, pass}
-use Rattle.overlay_split.specs.Run.{Settings, placing_of_pass, after_passes}
+use Rattle.overlay_cuts.specs.Pass.{cut_by, pass}
+use Rattle.overlay_cuts.specs.Run.{Settings, placing_of_pass, after_passes}
 use Rattle.overlay_geometry.proofs.laws.lists.Lists.{AllByRecursion-weaker, AllByRecursion-from_list_all, list_all-from_AllByRecursion}
 use Rattle.overlay_base.proofs.laws.joins.Members.{are_polygons-join}
-use Rattle.overlay_split.proofs.laws.paths.PieceCounts.{counts-cut}
+use Rattle.overlay_cuts.proofs.laws.paths.PieceCounts.{counts-cut}
 
 abbrev pub HasNoMask : WholeSegment → Type 0
 HasNoMask s = s.count.mask ≡ 0

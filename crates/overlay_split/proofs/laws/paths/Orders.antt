@@ -5,8 +5,8 @@ use Rattle.overlay_base.specs.Segments.{WholeSegment}
 use Rattle.overlay_base.proofs.laws.joins.Maps.{join-IsPermutation}
 use Rattle.overlay_base.proofs.laws.joins.Repeats.{has_equal_pairs-IsPermutation}
 use Rattle.overlay_intersections.specs.PassMarks.{is_rounded, mark_count}
-use Rattle.overlay_split.specs.Pass.{pass}
-use Rattle.overlay_split.specs.Run.{Settings, placing_of_pass, after_passes, goes_on, has_marked, has_changed}
+use Rattle.overlay_cuts.specs.Pass.{pass}
+use Rattle.overlay_cuts.specs.Run.{Settings, placing_of_pass, after_passes, goes_on, has_marked, has_changed}
 use Rattle.overlay_split.specs.Laws.{PassesIgnoreOrder, RunIgnoresOrder}
 
 pub passes_ignore_order : PassesIgnoreOrder

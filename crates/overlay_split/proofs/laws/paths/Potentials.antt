@@ -1,14 +1,10 @@
 -- A rounded settling pass makes a mark, and lowers the potential by at least the number of its marks.
-use Rattle.std.proofs.Common.{◌≡◌, ◌⊎◌, inl, inr, ⊎_elim, refl, sym, ap, subst, ◌∙◌, arith, ℕ, ◌+◌, ◌<◌, ◌≤◌, List, [], ◌∷◌, ◌++◌, map, length, true, false}
-use Rattle.std.specs.Prelude.{◌≤ℤ◌, ◌<ℤ◌, IsTrue, not, flat_map, sum_by}
+use Rattle.std.proofs.Common.{◌≡◌, ◌⊎◌, inl, inr, ⊎_elim, refl, sym, ap, subst, ◌∙◌, arith, ℕ, ◌+◌, ◌<◌, ◌≤◌, List, [], ◌∷◌, map, length, true, false}
+use Rattle.std.specs.Prelude.{◌<ℤ◌, IsTrue, not, sum_by}
 use Rattle.std.specs.List.{list_any, AllByRecursion}
-use Rattle.std.specs.BTreeSet.{insert_key}
-use Rattle.std.specs.declared.cmp.Ordering.{Ordering}
-use Rattle.std.specs.declared.cmp.Ordering.TheVariants.{Less}
 use Rattle.std.proofs.lemmas.Int.{ints, by_lt_z}
 use Rattle.std.proofs.lemmas.List.Sums.{sum_by-cons}
 use Rattle.std.proofs.lemmas.Bool.{and_parts, cond-true, cond-false, cases_Bool}
-use Rattle.std.specs.List.Sorted.{IsStrictlySortedBy}
 use Rattle.overlay_geometry.specs.Points.{Point, Pair, point_cmp, pair_lt, is_end, is_ordered}
 use Rattle.overlay_geometry.specs.Sorting.{distinct_in_order}
 use Rattle.overlay_base.specs.Segments.{WholeSegment, pairs, are_ordered}
@@ -16,53 +12,28 @@ use Rattle.overlay_geometry.specs.Meeting.{do_cross}
 use Rattle.overlay_base.specs.Sums.{IsCommutativeMonoid, gathered}
 use Rattle.overlay_intersections.specs.Crossing.{is_exact}
 use Rattle.overlay_intersections.specs.Marks.{Placing, settling, ordered_mark, marks_by, cross_inexactly}
-use Rattle.overlay_split.specs.Path.{columns_of, path_from, path, pieces}
-use Rattle.overlay_split.specs.Pass.{pieces_of, cut, pass}
+use Rattle.overlay_cuts.specs.Path.{columns_of, path_from, path, pieces}
+use Rattle.overlay_cuts.specs.Pass.{pieces_of, cut, pass}
 use Rattle.overlay_intersections.specs.PassMarks.{marks_on, is_rounded, mark_count}
-use Rattle.overlay_split.specs.Potential.{spread, potential}
+use Rattle.overlay_cuts.specs.Potential.{spread, potential}
 use Rattle.overlay_split.specs.Laws.{SettlingLowers}
-use Rattle.overlay_geometry.proofs.laws.geometry.Points.{Before, before, Before-irreflexive, by_pair_order, point_cmp_total, point_same, Before-x}
+use Rattle.overlay_geometry.proofs.laws.geometry.Points.{before, by_pair_order, point_cmp_total, point_same, Before-x}
 use Rattle.overlay_base.proofs.laws.lists.Monoids.{gathered-map}
 use Rattle.overlay_base.proofs.laws.joins.Maps.{are_ordered-map}
-use Rattle.overlay_geometry.proofs.laws.lists.Lists.{Pairwise, Steps, AllByRecursion-weaker, AllByRecursion-append, Pairwise-append, Pairwise-weaker, Pairwise-both, Pairwise-from_AllByRecursion, Has, Has-filter, Has-flat_map, Has-from_list_any, AllByRecursion-from_list_all}
-use Rattle.overlay_geometry.proofs.laws.lists.Keys.{AllByRecursion-distinct_in_order, IsStrictlySortedBy-distinct, Has-distinct_in_order}
+use Rattle.overlay_geometry.proofs.laws.lists.Lists.{Steps, AllByRecursion-weaker, Has, Has-filter, Has-flat_map, Has-from_list_any, AllByRecursion-from_list_all}
+use Rattle.overlay_geometry.proofs.laws.lists.Keys.{Has-distinct_in_order}
 use Rattle.overlay_base.proofs.laws.joins.Members.{sum_by-join_le}
-use Rattle.overlay_split.proofs.laws.paths.Paths.{all_of, AreColumns-columns_of, all_of-columns_of, Pairwise-distinct_in_order, steps_of_path}
-use Rattle.overlay_intersections.proofs.laws.marks.Marks.{Differ}
-use Rattle.overlay_split.proofs.laws.paths.Pieces.{last_point-path_from}
-use Rattle.overlay_intersections.proofs.laws.marks.Marks.{IsFree, IsFree-marks_on, IsRoundedPoint, rounded-marks_on, marks_at_crossing}
-use Rattle.overlay_split.proofs.laws.paths.Monotone.{Rises, Falls, Descends, IsDirection, Rises-is_direction, Falls-is_direction, rises_from_start, rises_to_end, falls_from_start, falls_to_end, rises_in_order, falls_in_order, path_rises, path_falls, reach, spread_is, potential-pieces_along, length-path_from}
+use Rattle.overlay_cuts.proofs.laws.paths.Paths.{all_of-columns_of, steps_of_path}
+use Rattle.overlay_intersections.proofs.laws.marks.Marks.{Differ, IsFree, IsFree-marks_on, IsRoundedPoint, rounded-marks_on, marks_at_crossing}
+use Rattle.overlay_cuts.proofs.laws.paths.Pieces.{last_point-path_from}
+use Rattle.overlay_cuts.proofs.laws.paths.Monotone.{Rises, Falls}
+use Rattle.overlay_split.proofs.laws.paths.Monotone.{IsDirection, Rises-is_direction, Falls-is_direction, reach, spread_is, potential-pieces_along, length-path_from}
 use Rattle.overlay_intersections.proofs.laws.crossings.Crossings.{do_cross-swap}
-use Rattle.overlay_split.proofs.laws.paths.Cuts.{gathered-cut}
+use Rattle.overlay_cuts.proofs.laws.paths.Cuts.{gathered-cut}
 use Rattle.overlay_intersections.proofs.laws.crossings.AnswerMarks.{pair_lt_back, crossing_ends_differ}
+use Rattle.overlay_cuts.proofs.laws.paths.Ends.{distinct_in_order-sorted, ends_differ, marks_on_rise, runs_down, runs_up}
 
 -- ---- the path of a pair through rounded points runs in one direction
-
-pub runs_up : (s : Pair) (marks : List Point) → s.a.x ≤ℤ s.b.x → s.a.y ≤ℤ s.b.y → AllByRecursion (IsRoundedPoint s) marks → Steps Rises s.a (path_from s.a (columns_of marks) s.b)
-runs_up s marks h k rounded =
-    let points = distinct_in_order point_cmp marks in
-    let e : all_of (columns_of marks) ≡ points = all_of-columns_of marks in
-    let each = AllByRecursion-distinct_in_order point_cmp (IsRoundedPoint s) marks rounded in
-    path_rises (columns_of marks) s.a s.b
-    (subst (λ (ps : List Point). AllByRecursion (Rises s.a) (ps ++ s.b ∷ [])) (sym e)
-    (AllByRecursion-append (Rises s.a) points (s.b ∷ []) (AllByRecursion-weaker (IsRoundedPoint s) (Rises s.a) (λ m i. rises_from_start s m h k i) points each) ((h, k), tt)))
-    (subst (λ (ps : List Point). Pairwise Rises (ps ++ s.b ∷ [])) (sym e)
-    (Pairwise-append Rises points (s.b ∷ [])
-    (Pairwise-weaker (λ p q. Before p q × (Before p q → Rises p q)) Rises (λ p q d. d.1 d.0) points
-    (Pairwise-both Before (λ p q. Before p q → Rises p q) points (Pairwise-distinct_in_order marks) (Pairwise-from_AllByRecursion (IsRoundedPoint s) (λ p q. Before p q → Rises p q) (λ p q i j b. rises_in_order s p q h k i j b) points each)))
-    (tt, tt) (AllByRecursion-weaker (IsRoundedPoint s) (λ m. AllByRecursion (Rises m) (s.b ∷ [])) (λ m i. (rises_to_end s m h k i, tt)) points each)))
-
-pub runs_down : (s : Pair) (marks : List Point) → s.a.x ≤ℤ s.b.x → s.b.y ≤ℤ s.a.y → AllByRecursion (IsRoundedPoint s) marks → Steps Falls s.a (path_from s.a (columns_of marks) s.b)
-runs_down s marks h k rounded =
-    let points = distinct_in_order point_cmp marks in
-    let e : all_of (columns_of marks) ≡ points = all_of-columns_of marks in
-    let each = AllByRecursion-distinct_in_order point_cmp (IsRoundedPoint s) marks rounded in
-    path_falls (columns_of marks) s.a s.b (AreColumns-columns_of marks)
-    (subst (λ (ps : List Point). AllByRecursion (Falls s.a) (ps ++ s.b ∷ [])) (sym e)
-    (AllByRecursion-append (Falls s.a) points (s.b ∷ []) (AllByRecursion-weaker (IsRoundedPoint s) (Falls s.a) (λ m i. falls_from_start s m h k i) points each) ((h, k), tt)))
-    (subst (Pairwise Descends) (sym e)
-    (Pairwise-both Before (λ p q. p.x <ℤ q.x → q.y ≤ℤ p.y) points (Pairwise-distinct_in_order marks) (Pairwise-from_AllByRecursion (IsRoundedPoint s) (λ p q. p.x <ℤ q.x → q.y ≤ℤ p.y) (λ p q i j l. falls_in_order s p q h k i j l) points each)))
-    (subst (AllByRecursion (λ z. Falls z s.b)) (sym e) (AllByRecursion-weaker (IsRoundedPoint s) (λ z. Falls z s.b) (λ m i. falls_to_end s m h k i) points each))
 
 counted : (R : Point → Point → Type 0) → IsDirection R → (segment : WholeSegment) (marks : List Point) → Differ segment.pair.a segment.pair.b → AllByRecursion (IsFree segment.pair) marks → Steps R segment.pair.a (path_from segment.pair.a (columns_of marks) segment.pair.b) → potential (pieces segment marks) + length (distinct_in_order point_cmp marks) ≡ spread segment.pair
 unfolding pieces path
@@ -79,9 +50,6 @@ counted R is segment marks ends free steps =
     joined : (all n m d u v w : ℕ) → all + n ≡ u → u ≡ v → n ≡ m + 1 → m ≡ d → w + 1 ≡ v → all + d ≡ w
     joined all n m d u v w e f g h k = omega arith
 
-pub ends_differ : (s : Pair) → IsTrue (is_ordered s) → Differ s.a s.b
-ends_differ s o e = Before-irreflexive s.b (subst (λ (z : Point). Before z s.b) e (before s.a s.b o))
-
 -- the spreads of the pieces, and a unit for each mark, sum to the spread of the segment
 pub potential-pieces : (segment : WholeSegment) (marks : List Point) → IsTrue (is_ordered segment.pair) → AllByRecursion (IsFree segment.pair) marks → AllByRecursion (IsRoundedPoint segment.pair) marks → potential (pieces segment marks) + length (distinct_in_order point_cmp marks) ≡ spread segment.pair
 potential-pieces segment marks o free rounded =
@@ -93,19 +61,6 @@ potential-pieces segment marks o free rounded =
     (λ l. counted Rises Rises-is_direction segment marks d free (runs_up s marks x l rounded))
 
 -- ---- points in order are left as they are
-
-insert_key_first : {K : Type 0} (cmp : K → K → Ordering) (k : K) (ks : List K) → AllByRecursion (λ j. cmp k j ≡ Less) ks → insert_key cmp ks k ≡ k ∷ ks
-insert_key_first cmp k [] h = refl
-insert_key_first cmp k (j ∷ ks) h = rw h.0 refl
-
-pub distinct_in_order-sorted : {K : Type 0} (cmp : K → K → Ordering) (ks : List K) → IsStrictlySortedBy cmp ks → distinct_in_order cmp ks ≡ ks
-unfolding distinct_in_order IsStrictlySortedBy
-distinct_in_order-sorted cmp [] h = refl
-distinct_in_order-sorted cmp (k ∷ ks) h = ap (λ (js : List _). insert_key cmp js k) (distinct_in_order-sorted cmp ks h.1) ∙ insert_key_first cmp k ks h.0
-
-pub marks_on_rise : (placing : Placing) (segments : List WholeSegment) (s : Pair) → IsStrictlySortedBy point_cmp (marks_on placing segments s)
-unfolding marks_on
-marks_on_rise placing segments s = IsStrictlySortedBy-distinct point_cmp_total (flat_map (λ t. marks_by placing s t) (pairs segments))
 
 pub distinct-marks_on : (placing : Placing) (segments : List WholeSegment) (s : Pair) → distinct_in_order point_cmp (marks_on placing segments s) ≡ marks_on placing segments s
 distinct-marks_on placing segments s = distinct_in_order-sorted point_cmp (marks_on placing segments s) (marks_on_rise placing segments s)

@@ -8,19 +8,21 @@ use Rattle.overlay_base.specs.Join.{join}
 use Rattle.overlay_geometry.specs.Meeting.{do_cross}
 use Rattle.overlay_base.specs.Planar.{is_planar}
 use Rattle.overlay_intersections.specs.Marks.{Placing, ordered_mark, marks_by}
-use Rattle.overlay_split.specs.Path.{pieces}
-use Rattle.overlay_split.specs.Pass.{pieces_of, cut_by, pass}
+use Rattle.overlay_cuts.specs.Path.{pieces}
+use Rattle.overlay_cuts.specs.Pass.{pieces_of, cut_by, pass}
 use Rattle.overlay_intersections.specs.PassMarks.{marks_on, is_rounded}
-use Rattle.overlay_split.specs.Run.{Settings, placing_of_pass, after_passes, goes_on, has_changed, IsPassCount}
+use Rattle.overlay_cuts.specs.Run.{Settings, placing_of_pass, after_passes, goes_on, has_changed, IsPassCount}
 use Rattle.overlay_split.specs.Laws.{RunIsOne, RunIsPlanar, ResultIsUnchanged, ExactRunsAgree}
 use Rattle.overlay_geometry.proofs.laws.lists.Lists.{Has, Has-map}
-use Rattle.overlay_split.proofs.laws.paths.Runs.{is_map-after_passes}
+use Rattle.overlay_cuts.proofs.laws.paths.Maps.{is_map-after_passes}
 use Rattle.overlay_intersections.proofs.laws.crossings.ExactCrossings.{IsCrossingPoint, IsCrossingPoint-unique}
 use Rattle.overlay_intersections.proofs.laws.marks.Marks.{marks_at_crossing, marks_at_ends}
-use Rattle.overlay_split.proofs.laws.planar.ExactMarks.{In, In-mark}
-use Rattle.overlay_split.proofs.laws.planar.PlanarPasses.{exact_pass_is_planar}
-use Rattle.overlay_split.proofs.laws.planar.Arranged.{flat_map-same, arranged_is_unchanged}
-use Rattle.overlay_split.proofs.laws.planar.ExactInputs.{few_are_planar, join_not_rounded, one_pass, exact_means}
+use Rattle.overlay_cuts.proofs.laws.planar.ExactMarks.{In, In-mark}
+use Rattle.overlay_cuts.proofs.laws.planar.PlanarPasses.{exact_pass_is_planar}
+use Rattle.overlay_cuts.proofs.laws.planar.Unmarked.{flat_map-same}
+use Rattle.overlay_split.proofs.laws.planar.Arranged.{arranged_is_unchanged}
+use Rattle.overlay_split.proofs.laws.planar.ExactInputs.{few_are_planar, one_pass}
+use Rattle.overlay_cuts.proofs.laws.planar.ExactInputs.{join_not_rounded, exact_means}
 
 -- where no further pass is made the arrangement is planar
 pub stopped_is_planar : (settings : Settings) (given : List WholeSegment) → IsTrue (are_ordered given) → (k : ℕ) → IsFalse (goes_on settings given k) → IsTrue (is_planar (after_passes settings given k))

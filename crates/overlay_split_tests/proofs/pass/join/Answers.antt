@@ -4,7 +4,7 @@ use Rattle.overlay_base.specs.Windings.{is_valid}
 use Rattle.overlay_base.specs.Join.{join}
 use Rattle.overlay_base.specs.SegmentOf.{segment_of, segments_of, winding_of}
 use Rattle.overlay_base.proofs.laws.joins.Rests.{is_splittable-valid}
-use Rattle.overlay_split.proofs.laws.passes.Ready.{is_map-joined}
+use Rattle.overlay_cuts.proofs.laws.passes.Ready.{is_map-joined}
 use Rattle.overlay_split_tests.proofs.pass.join.Goals as goal
 
 pub join_with_store-requires : goal.join_with_store-requires

@@ -3,7 +3,7 @@ use Rattle.overlay_geometry.specs.Points.{Point}
 use Rattle.overlay_base.specs.Segments.{WholeSegment}
 use Rattle.overlay_base.specs.SegmentOf.{segments_of}
 use Rattle.overlay_base.specs.declared.segm.fault.Fault.{Fault}
-use Rattle.overlay_split.specs.Run.{Settings}
+use Rattle.overlay_cuts.specs.Run.{Settings}
 use Rattle.overlay_split.specs.SettingsOf.{settings_of, passes_of, reach_of}
 use Rattle.overlay_contours.specs.ContoursOf.{contours_of}
 use Rattle.overlay_contours.specs.Refusals.{IsReason}

@@ -8,7 +8,7 @@ use Rattle.overlay_base.specs.declared.segm.fault.Fault.TheVariants.{Memory}
 use Rattle.overlay_base.proofs.laws.joins.Maps.{are_ordered-map}
 use Rattle.overlay_base.proofs.laws.joins.Rests.{is_splittable-valid}
 use Rattle.overlay_intersections.specs.MarkOf.{mark_of, marks_of, mark_points_of}
-use Rattle.overlay_split.proofs.laws.passes.Ready.{IsPairInRange-each}
+use Rattle.overlay_cuts.proofs.laws.passes.Ready.{IsPairInRange-each}
 use Rattle.overlay_snapping.specs.CutsOf.{AreCutsAt}
 use Rattle.overlay_snapping.specs.HotOf.{KnowsHot}
 use Rattle.overlay_snapping.specs.steps.Batches.{IsCutSoFar}

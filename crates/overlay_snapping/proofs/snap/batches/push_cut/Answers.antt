@@ -7,7 +7,7 @@ use Rattle.overlay_geometry.specs.Points.{is_end, is_ordered}
 use Rattle.overlay_base.specs.HooksOf.{hooks_of}
 use Rattle.overlay_base.specs.SegmentOf.{ends_of, winding_of, segment_of, segments_of}
 use Rattle.overlay_intersections.specs.MarkOf.{points_of, mark_points_of}
-use Rattle.overlay_split.specs.Path.{LeadsOn, pieces, pieces_along}
+use Rattle.overlay_cuts.specs.Path.{LeadsOn, pieces, pieces_along}
 use Rattle.overlay_snapping.proofs.laws.batches.CutPaths.{path_leads, pieces_collected, pieces_appended, valid_appended}
 use Rattle.overlay_snapping.proofs.snap.batches.push_cut.Goals as goal
 

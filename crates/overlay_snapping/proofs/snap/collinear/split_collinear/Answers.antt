@@ -1,4 +1,4 @@
-use Rattle.overlay_split.proofs.laws.passes.Ready.{IsPairInRange-each}
+use Rattle.overlay_cuts.proofs.laws.passes.Ready.{IsPairInRange-each}
 use Rattle.overlay_snapping.proofs.snap.collinear.split_collinear.Goals as goal
 
 pub are_many_deep-requires : goal.are_many_deep-requires

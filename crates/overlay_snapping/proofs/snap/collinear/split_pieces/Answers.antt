@@ -12,11 +12,11 @@ use Rattle.overlay_grid.specs.GroupsOf.{grid_in}
 use Rattle.overlay_intersections.specs.MarkOf.{AreMarks, marks_of}
 use Rattle.overlay_intersections.specs.Marks.{settling}
 use Rattle.overlay_intersections.specs.PassMarks.{marks_on, is_rounded}
-use Rattle.overlay_split.specs.Run.{after_passes}
-use Rattle.overlay_split.specs.Pass.{pass}
-use Rattle.overlay_split.proofs.laws.passes.GridRuns.{run_lies_inside}
-use Rattle.overlay_split.proofs.laws.passes.Ready.{IsPairInRange-each, IsSortedByKey-is_map}
-use Rattle.overlay_split.proofs.laws.passes.Splittable.{is_splittable-join}
+use Rattle.overlay_cuts.specs.Run.{after_passes}
+use Rattle.overlay_cuts.specs.Pass.{pass}
+use Rattle.overlay_cuts.proofs.laws.passes.GridRuns.{run_lies_inside}
+use Rattle.overlay_cuts.proofs.laws.passes.Ready.{IsPairInRange-each, IsSortedByKey-is_map}
+use Rattle.overlay_cuts.proofs.laws.passes.Splittable.{is_splittable-join}
 use Rattle.overlay_snapping.specs.steps.Resolved.{AreResolved, AreResolvedCut}
 use Rattle.overlay_snapping.proofs.laws.chains.MarkLists.{cut_marks}
 use Rattle.overlay_snapping.proofs.laws.cuts.ExactMarks.{exact_cuts}

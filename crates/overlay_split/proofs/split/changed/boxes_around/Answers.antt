@@ -8,8 +8,8 @@ use Rattle.overlay_base.specs.SegmentOf.{ends_of, segment_of, segments_of, pairs
 use Rattle.overlay_intersections.specs.MarkOf.{mark_of, marks_of, mark_points_of}
 use Rattle.overlay_split.specs.steps.ChangedBoxes.{rects_of, LiesInWith}
 use Rattle.overlay_split.proofs.laws.passes.AroundMarks.{AreAroundBut, none_yet, around_next, around_all, AreFirst-from, pair_at}
-use Rattle.overlay_split.proofs.laws.passes.Columns.{none_left}
-use Rattle.overlay_split.proofs.laws.passes.MarkBlocks.{AreRising-from}
+use Rattle.overlay_cuts.proofs.laws.passes.Columns.{none_left}
+use Rattle.overlay_cuts.proofs.laws.passes.MarkBlocks.{AreRising-from}
 use Rattle.overlay_split.proofs.split.changed.boxes_around.Goals as goal
 
 pub loop-first-init : goal.loop-first-init

@@ -3,9 +3,9 @@ use Rattle.std.specs.List.{AllByRecursion}
 use Rattle.overlay_geometry.specs.Points.{Point, Pair}
 use Rattle.overlay_base.specs.SegmentOf.{segments_of, pairs_in}
 use Rattle.overlay_intersections.specs.MarkOf.{marks_of}
-use Rattle.overlay_split.specs.CutOf.{AreMarksBy}
+use Rattle.overlay_cuts.specs.CutOf.{AreMarksBy}
 use Rattle.overlay_split.specs.steps.ChangedBoxes.{rects_of}
-use Rattle.overlay_split.proofs.laws.passes.MarkBlocks.{AreRising}
+use Rattle.overlay_cuts.proofs.laws.passes.MarkBlocks.{AreRising}
 use Rattle.overlay_split.proofs.laws.passes.AroundMarks.{AreAroundBut}
 use Rattle.overlay_split.proofs.split.changed.boxes_around.Given as goal
 

@@ -1,13 +1,13 @@
-use Rattle.overlay_split.proofs.laws.nearness.Coverings.{cut_pieces_stay_near}
+use Rattle.overlay_cuts.proofs.laws.nearness.Coverings.{cut_pieces_stay_near}
 use Rattle.overlay_split.proofs.laws.nearness.NearLines.{cut_keeps_what_winds, cut_keeps_winding_near_lines}
 use Rattle.overlay_split.proofs.laws.nearness.NearMasks.{cut_keeps_lines}
-use Rattle.overlay_split.proofs.laws.nearness.Nearness.{cut_stays_near}
-use Rattle.overlay_split.proofs.laws.nearness.Places.{cut_keeps_winding}
-use Rattle.overlay_split.proofs.laws.passes.Splittable.{cut_is_splittable}
-use Rattle.overlay_split.proofs.laws.paths.Balances.{cut_keeps_balance}
-use Rattle.overlay_split.proofs.laws.paths.Boxes.{boxes_are_meant, cut_stays_in_box}
+use Rattle.overlay_cuts.proofs.laws.nearness.Nearness.{cut_stays_near}
+use Rattle.overlay_cuts.proofs.laws.nearness.Places.{cut_keeps_winding}
+use Rattle.overlay_cuts.proofs.laws.passes.Splittable.{cut_is_splittable}
+use Rattle.overlay_cuts.proofs.laws.paths.Balances.{cut_keeps_balance}
+use Rattle.overlay_cuts.proofs.laws.paths.Boxes.{boxes_are_meant, cut_stays_in_box}
 use Rattle.overlay_split.proofs.laws.paths.Masks.{cut_keeps_polygons}
-use Rattle.overlay_split.proofs.laws.paths.Runs.{cut_is_map}
+use Rattle.overlay_cuts.proofs.laws.paths.Maps.{cut_is_map}
 use Rattle.overlay_split.proofs.laws.planar.Arranged.{unmarked_cut_is_unchanged}
 use Rattle.overlay_split.proofs.split.laws.cut_laws.Goals as goal
 

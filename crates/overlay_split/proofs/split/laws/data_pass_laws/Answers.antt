@@ -1,6 +1,6 @@
-use Rattle.overlay_split.proofs.laws.passes.DataInvariants.{data_keeps_what_hooks_keep}
-use Rattle.overlay_split.proofs.laws.nearness.NamedData.{data_names_what_is_near}
-use Rattle.overlay_split.proofs.laws.passes.DataPasses.{data_is_beside, unmarked_data_is_unchanged, arranged_data_is_unchanged}
+use Rattle.overlay_cuts.proofs.laws.passes.DataInvariants.{data_keeps_what_hooks_keep}
+use Rattle.overlay_cuts.proofs.laws.nearness.NamedData.{data_names_what_is_near}
+use Rattle.overlay_cuts.proofs.laws.passes.DataPasses.{data_is_beside, unmarked_data_is_unchanged, arranged_data_is_unchanged}
 use Rattle.overlay_split.proofs.split.laws.data_pass_laws.Goals as goal
 
 pub returns-clause-beside : goal.returns-clause-beside

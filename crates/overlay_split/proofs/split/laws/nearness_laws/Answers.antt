@@ -1,5 +1,5 @@
-use Rattle.overlay_split.proofs.laws.nearness.Distances.{LiesNear-from_ends, LiesNear-trans}
-use Rattle.overlay_split.proofs.laws.nearness.NearMarks.{root_is_meant, root_of_power, crossing_lies_on_both, mark_is_near}
+use Rattle.overlay_cuts.proofs.laws.nearness.Distances.{LiesNear-from_ends, LiesNear-trans}
+use Rattle.overlay_cuts.proofs.laws.nearness.NearMarks.{root_is_meant, root_of_power, crossing_lies_on_both, mark_is_near}
 use Rattle.overlay_split.proofs.laws.nearness.Nearness.{pass_stays_near, reach_is_bounded, last_pass_reaches_nothing, exact_input_reaches_nothing}
 use Rattle.overlay_split.proofs.laws.nearness.Coverings.{pieces_stay_near, run_stays_near}
 use Rattle.overlay_split.proofs.laws.nearness.LineCounts.{lines_are_kept}

@@ -1,4 +1,5 @@
-use Rattle.overlay_split.proofs.laws.nearness.Places.{pass_on_one_side, join_keeps_winding, pass_keeps_winding, run_keeps_winding, exact_input_keeps_winding}
+use Rattle.overlay_split.proofs.laws.nearness.Places.{pass_on_one_side, pass_keeps_winding, run_keeps_winding, exact_input_keeps_winding}
+use Rattle.overlay_cuts.proofs.laws.nearness.Places.{join_keeps_winding}
 use Rattle.overlay_split.proofs.laws.nearness.NearLines.{run_keeps_winding_near_lines}
 use Rattle.overlay_split.proofs.laws.nearness.FarRays.{far_lies_on_none, run_keeps_rays}
 use Rattle.overlay_split.proofs.split.laws.place_laws.Goals as goal

@@ -1,4 +1,4 @@
-use Rattle.overlay_split.proofs.laws.planar.PlanarPasses.{exact_pass_is_planar}
+use Rattle.overlay_cuts.proofs.laws.planar.PlanarPasses.{exact_pass_is_planar}
 use Rattle.overlay_split.proofs.laws.planar.Arranged.{planar_pass_is_unchanged, arranged_is_unchanged}
 use Rattle.overlay_split.proofs.laws.planar.PlanarRuns.{run_is_planar, result_is_unchanged}
 use Rattle.overlay_split.proofs.laws.passes.UnmarkedPairs.{unmarked_are_apart, part_has_the_marks}

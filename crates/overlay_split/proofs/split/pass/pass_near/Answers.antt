@@ -13,13 +13,13 @@ use Rattle.overlay_intersections.specs.PassMarks.{marks_on}
 use Rattle.overlay_intersections.specs.PlacingOf.{placing_of}
 use Rattle.overlay_intersections.specs.declared.split.line_mark.LineMark.{LineMark}
 use Rattle.overlay_intersections.specs.declared.split.placing.Placing.{Placing}
-use Rattle.overlay_split.specs.DataPass.{data_pass}
-use Rattle.overlay_split.specs.Pass.{pass}
-use Rattle.overlay_split.specs.CutOf.{AreCutMarksOf, ForMarks}
+use Rattle.overlay_cuts.specs.DataPass.{data_pass}
+use Rattle.overlay_cuts.specs.Pass.{pass}
+use Rattle.overlay_cuts.specs.CutOf.{AreCutMarksOf, ForMarks}
 use Rattle.overlay_split.specs.PassOf.{StopsPass, piece_count, pieces_leave_range}
 use Rattle.overlay_split.specs.steps.ChangedBoxes.{AreAround, rects_of}
 use Rattle.overlay_split.proofs.laws.passes.PieceNumbers.{pieces_counted}
-use Rattle.overlay_split.proofs.laws.passes.Ready.{AreCutMarks-pass, AreMarksBy-bare, AreMarksBy-pass, IsPairInRange-each, IsSortedByKey-is_map, marks_tell}
+use Rattle.overlay_cuts.proofs.laws.passes.Ready.{AreCutMarks-pass, AreMarksBy-bare, AreMarksBy-pass, IsPairInRange-each, IsSortedByKey-is_map, marks_tell}
 use Rattle.overlay_split.proofs.laws.passes.BoundChanges.{bound_change}
 use Rattle.overlay_split.proofs.laws.passes.StoppedRuns.{refused_in}
 use Rattle.overlay_split.proofs.split.pass.pass_near.Goals as goal

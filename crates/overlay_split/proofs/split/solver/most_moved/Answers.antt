@@ -3,7 +3,7 @@ use Rattle.std.specs.Prelude.{ℤ, unsigned_abs}
 use Rattle.overlay_intersections.specs.PlacingOf.{placing_of}
 use Rattle.overlay_intersections.specs.declared.split.placing.Placing.{Placing}
 use Rattle.overlay_intersections.specs.declared.split.placing.Placing.TheVariants.{Snapping}
-use Rattle.overlay_split.specs.Nearness.{root, reach}
+use Rattle.overlay_cuts.specs.Nearness.{root, reach}
 use Rattle.overlay_split.proofs.laws.nearness.Reaches.{root_found}
 use Rattle.overlay_split.proofs.split.solver.most_moved.Goals as goal
 

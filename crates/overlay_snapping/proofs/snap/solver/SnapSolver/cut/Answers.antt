@@ -11,9 +11,9 @@ use Rattle.overlay_base.proofs.laws.joins.Maps.{are_ordered-map}
 use Rattle.overlay_base.proofs.laws.joins.OneValues.{same_without_data}
 use Rattle.overlay_base.proofs.laws.joins.Views.{segments_of-bare}
 use Rattle.overlay_intersections.specs.MarkOf.{Mark, mark_of, marks_of}
-use Rattle.overlay_split.specs.Pass.{pass_by}
-use Rattle.overlay_split.proofs.laws.passes.DataPasses.{bare-data_pass_by}
-use Rattle.overlay_split.proofs.laws.passes.StoppedRuns.{refused_by}
+use Rattle.overlay_cuts.specs.Pass.{pass_by}
+use Rattle.overlay_cuts.proofs.laws.passes.DataPasses.{bare-data_pass_by}
+use Rattle.overlay_cuts.proofs.laws.passes.Refusals.{refused_by}
 use Rattle.overlay_snapping.specs.CutsOf.{AreCuts}
 use Rattle.overlay_snapping.specs.steps.Batches.{HasCut}
 use Rattle.overlay_snapping.proofs.laws.batches.Walks.{cut_fits}

@@ -3,9 +3,9 @@ use Rattle.overlay_base.specs.SegmentOf.{segments_of}
 use Rattle.overlay_base.proofs.laws.joins.Maps.{are_ordered-map, join-map}
 use Rattle.overlay_grid.specs.GridFor.{IsGridFor}
 use Rattle.overlay_grid.specs.GroupsOf.{grid_in}
-use Rattle.overlay_split.specs.Run.{after_passes}
-use Rattle.overlay_split.proofs.laws.passes.GridRuns.{run_lies_inside}
-use Rattle.overlay_split.proofs.laws.passes.Ready.{IsPairInRange-each, IsSortedByKey-is_map}
+use Rattle.overlay_cuts.specs.Run.{after_passes}
+use Rattle.overlay_cuts.proofs.laws.passes.GridRuns.{run_lies_inside}
+use Rattle.overlay_cuts.proofs.laws.passes.Ready.{IsPairInRange-each, IsSortedByKey-is_map}
 use Rattle.overlay_intersections.specs.MarkOf.{marks_of}
 use Rattle.overlay_snapping.proofs.laws.batches.Existence.{cuts_exist}
 use Rattle.overlay_snapping.proofs.laws.chains.MarkLists.{marks_for, cuts_for}

@@ -19,16 +19,16 @@ use Rattle.overlay_base.proofs.laws.joins.Stores.{made_further}
 use Rattle.overlay_base.proofs.laws.joins.Views.{segments_ordered, segments_of-bare}
 use Rattle.overlay_intersections.specs.PassMarks.{is_rounded}
 use Rattle.overlay_base.proofs.laws.joins.Repeats.{has_equal_pairs-map}
-use Rattle.overlay_split.proofs.laws.passes.DataPasses.{unmarked_data_cut_is_unchanged}
-use Rattle.overlay_split.specs.DataPass.{data_cut_by, data_pass_by}
+use Rattle.overlay_cuts.proofs.laws.passes.DataPasses.{unmarked_data_cut_is_unchanged}
+use Rattle.overlay_cuts.specs.DataPass.{data_cut_by, data_pass_by}
 use Rattle.std.proofs.lemmas.Bool.{both_ways, and_parts, false_from_ne_true}
-use Rattle.overlay_split.specs.Pass.{cut_by, pass_by}
-use Rattle.overlay_split.specs.Nearness.{LieNear, MarksLieNear, IsNearSome, point_along, LieInGivenBox}
-use Rattle.overlay_split.specs.Laws.{NameNear}
-use Rattle.overlay_split.proofs.laws.passes.DataInvariants.{data_cut_keeps_what_hooks_keep}
-use Rattle.overlay_split.proofs.laws.nearness.NamedData.{data_cut_names_what_is_near}
-use Rattle.overlay_split.proofs.laws.passes.Splittable.{is_splittable-join}
-use Rattle.overlay_split.proofs.laws.passes.StoppedRuns.{refused_by}
+use Rattle.overlay_cuts.specs.Pass.{cut_by, pass_by}
+use Rattle.overlay_cuts.specs.Nearness.{LieNear, MarksLieNear, IsNearSome, point_along, LieInGivenBox}
+use Rattle.overlay_cuts.specs.Laws.{NameNear}
+use Rattle.overlay_cuts.proofs.laws.passes.DataInvariants.{data_cut_keeps_what_hooks_keep}
+use Rattle.overlay_cuts.proofs.laws.nearness.NamedData.{data_cut_names_what_is_near}
+use Rattle.overlay_cuts.proofs.laws.passes.Splittable.{is_splittable-join}
+use Rattle.overlay_cuts.proofs.laws.passes.Refusals.{refused_by}
 use Rattle.overlay_snapping.specs.Chains.{AreSnapCuts, IsSnapped}
 use Rattle.overlay_snapping.specs.Counts.{chain_points}
 use Rattle.overlay_snapping.specs.SnapOf.{IsRefusedPieces, IsStoppedSnap, stops_join, stops_pieces, reach_of_snap, IsNearCancelledInSnap, SnapChanges, SnapLeavesRange, in_join, in_pieces}

@@ -10,27 +10,28 @@ use Rattle.overlay_base.specs.Radius.{exponent_cap}
 use Rattle.overlay_base.specs.SegmentOf.{segment_of, segments_of, data_segments_of}
 use Rattle.overlay_base.proofs.laws.joins.Rests.{is_splittable-valid}
 use Rattle.overlay_base.proofs.laws.joins.Views.{segments_ordered, segments_of-bare}
-use Rattle.overlay_split.specs.DataPass.{IsStoppedRun, data_after_passes}
-use Rattle.overlay_split.specs.Run.{Settings}
+use Rattle.overlay_cuts.specs.DataPass.{IsStoppedRun, data_after_passes}
+use Rattle.overlay_cuts.specs.Run.{Settings}
 use Rattle.overlay_split.specs.SettingsOf.{settings_of}
 use Rattle.overlay_split.proofs.laws.nearness.Reaches.{run-reach-none, reach_further}
 use Rattle.overlay_split.proofs.laws.passes.Splitting.{at_start, at_next, at_end, stopped_at_start, stopped_at, placed_as, nears_end, reaches_early, potential_small, exponent_grows, goes_on-is, starts-is, keeps_room}
 use Rattle.overlay_base.specs.declared.overlay_core.solver.Solver.{Solver}
 use Rattle.overlay_base.specs.Planar.{is_splittable}
 use Rattle.overlay_base.proofs.laws.joins.Maps.{is_map-join}
-use Rattle.overlay_split.proofs.laws.passes.Splittable.{is_splittable-join}
-use Rattle.overlay_split.proofs.laws.passes.Ready.{IsPairInRange-each}
+use Rattle.overlay_cuts.proofs.laws.passes.Splittable.{is_splittable-join}
+use Rattle.overlay_cuts.proofs.laws.passes.Ready.{IsPairInRange-each}
 use Rattle.overlay_split.proofs.laws.passes.RunLengths.{joins_first, joins_next, stops_first, stops_next}
 use Rattle.overlay_split.proofs.laws.passes.RunLooks.{AreRunLooks-start, AreRunLooks-more}
-use Rattle.overlay_split.proofs.laws.passes.GridRuns.{run_lies_inside}
+use Rattle.overlay_cuts.proofs.laws.passes.GridRuns.{run_lies_inside}
 use Rattle.overlay_grid.specs.GroupsOf.{grid_in}
 use Rattle.overlay_base.specs.EdgeData.{IsMadeFrom}
 use Rattle.overlay_base.specs.EdgeData.IsMadeFrom.{no_call}
 use Rattle.overlay_base.specs.declared.segm.segment.Segment.{Segment}
 use Rattle.std.proofs.lemmas.List.{length-map}
 use Rattle.overlay_base.proofs.laws.joins.Stores.{made_further}
-use Rattle.overlay_split.proofs.laws.passes.StoppedRuns.{refused_by, refused_in}
-use Rattle.overlay_split.proofs.laws.passes.Stores.{made_by_passes}
+use Rattle.overlay_cuts.proofs.laws.passes.Refusals.{refused_by}
+use Rattle.overlay_split.proofs.laws.passes.StoppedRuns.{refused_in}
+use Rattle.overlay_cuts.proofs.laws.passes.Stores.{made_by_passes}
 use Rattle.overlay_split.proofs.split.solver.SplitSolver.run.Goals as goal
 
 -- the greatest exponent of a radius is beyond the cap

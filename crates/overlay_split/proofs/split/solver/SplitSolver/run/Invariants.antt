@@ -4,8 +4,8 @@ use Rattle.overlay_base.specs.HooksOf.{hooks_of}
 use Rattle.overlay_base.specs.SegmentOf.{segments_of, data_segments_of}
 use Rattle.overlay_base.specs.Radius.{exponent_of, step_of}
 use Rattle.overlay_split.specs.SettingsOf.{settings_of}
-use Rattle.overlay_split.specs.Nearness.{reach_of_run}
-use Rattle.overlay_split.specs.Potential.{potential}
+use Rattle.overlay_cuts.specs.Nearness.{reach_of_run}
+use Rattle.overlay_cuts.specs.Potential.{potential}
 use Rattle.overlay_grid.specs.GroupsOf.{grid_in}
 use Rattle.overlay_split.specs.RunLengths.{JoinsAtMost}
 use Rattle.overlay_split.specs.RunLooks.{AreRunLooks}

@@ -11,15 +11,15 @@ use Rattle.overlay_base.specs.EdgeData.{Hooks}
 use Rattle.overlay_base.specs.HooksOf.{hooks_of}
 use Rattle.overlay_base.specs.SegmentOf.{segment_of, segments_of, data_segments_of}
 use Rattle.overlay_base.proofs.laws.joins.Views.{segments_ordered, segments_of-bare}
-use Rattle.overlay_split.specs.DataPass.{IsStoppedRun}
-use Rattle.overlay_split.specs.Run.{Settings, LeavesRange}
+use Rattle.overlay_cuts.specs.DataPass.{IsStoppedRun}
+use Rattle.overlay_cuts.specs.Run.{Settings, LeavesRange}
 use Rattle.overlay_split.specs.SplitFaultOf.{OnLargeCount}
 use Rattle.overlay_split.specs.SettingsOf.{settings_of, passes_of, reach_of}
-use Rattle.overlay_split.specs.Nearness.{reach_of_run}
-use Rattle.overlay_split.proofs.laws.nearness.NamedData.{split_names_near}
+use Rattle.overlay_cuts.specs.Nearness.{reach_of_run}
+use Rattle.overlay_cuts.proofs.laws.nearness.NamedData.{split_names_near}
 use Rattle.overlay_split.proofs.laws.nearness.Nearness.{exact_input_reaches_nothing}
 use Rattle.overlay_split.proofs.laws.nearness.Reaches.{run-reach-none, reports_reach}
-use Rattle.overlay_split.proofs.laws.passes.DataInvariants.{data_keeps_what_hooks_keep}
+use Rattle.overlay_cuts.proofs.laws.passes.DataInvariants.{data_keeps_what_hooks_keep}
 use Rattle.overlay_split.proofs.laws.passes.StoppedRuns.{stopped_run_leaves_range}
 use Rattle.overlay_split.proofs.laws.passes.Splitting.{HasEnded, at_rest, has_ended, stays_arranged, segments_none}
 use Rattle.std.proofs.lemmas.List.{length-map}

@@ -2,7 +2,7 @@ use Rattle.std.proofs.Common.{◌≡◌, OnOk}
 use Rattle.std.specs.Prelude.{Result, Ok, Err}
 use Rattle.overlay_base.specs.HooksOf.{hooks_of}
 use Rattle.overlay_base.specs.SegmentOf.{data_segments_of}
-use Rattle.overlay_split.specs.DataPass.{data_after_passes}
+use Rattle.overlay_cuts.specs.DataPass.{data_after_passes}
 use Rattle.overlay_split.specs.SettingsOf.{settings_of, passes_of}
 use Rattle.overlay_split.proofs.split.solver.SplitSolver.split_segments_within.Goals as goal
 

@@ -1,0 +1,4 @@
+-- What only contracts of private functions use. No public contract speaks of it, so nobody has to believe it.
+pub mod PathSteps
+pub mod DataCutAt
+pub mod PiecesOf

@@ -1,7 +1,0 @@
-use Rattle.std.proofs.Common.{rules}
-use Rattle.std.proofs.lemmas.Iterator.{YieldsList-from_map}
-use Rattle.std.proofs.lemmas.Iterator.Adapters.{items_from_extend, YieldsList-from_rev_slice}
-use Rattle.overlay_split.proofs.split.path.append_downward.Goals as goal
-
-pub returns : goal.returns
-returns g c = let h = items_from_extend c.extend.result c.extend.ensures.ran (YieldsList-from_map _ (λ m. m.point) (YieldsList-from_rev_slice c.args.column.now cc) c.map.ensures.closure (λ x r q k. search rules)) in search rules
