@@ -23,9 +23,9 @@ use Rattle.overlay_base.specs.declared.overlay_core.fill_rule.FillRule.{FillRule
 use Rattle.overlay_base.specs.declared.overlay_core.link.OverlayLink.{OverlayLink}
 use Rattle.overlay_base.specs.declared.overlay_core.overlay_rule.OverlayRule.{OverlayRule}
 use Rattle.overlay_base.proofs.laws.joins.DataJoins.{bare}
-use Rattle.overlay_split.specs.DataPass.{data_after_passes, IsDataAfter}
-use Rattle.overlay_split.specs.Laws.{HooksKeep, HooksNameNoOther, NameNear}
-use Rattle.overlay_split.specs.Nearness.{LiesNear}
+use Rattle.overlay_cuts.specs.DataPass.{data_after_passes, IsDataAfter}
+use Rattle.overlay_cuts.specs.Laws.{HooksKeep, HooksNameNoOther, NameNear}
+use Rattle.overlay_cuts.specs.Nearness.{LiesNear}
 use Rattle.overlay_snapping.specs.Chains.{AreSnapCuts}
 use Rattle.overlay_snapping.specs.SnapOf.{data_snap}
 use Rattle.overlay_contours.specs.Splittings.{Splitting, by_passes, by_snapping}

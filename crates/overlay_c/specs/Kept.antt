@@ -15,9 +15,9 @@ use Rattle.overlay_base.specs.Join.{join}
 use Rattle.overlay_contours.specs.Splittings.{Splitting, by_passes, by_snapping}
 use Rattle.overlay_snapping.specs.Chains.{AreSnapCuts}
 use Rattle.overlay_snapping.specs.SnapOf.{data_snap}
-use Rattle.overlay_split.specs.DataPass.{data_after_passes}
-use Rattle.overlay_split.specs.Laws.{NameNear}
-use Rattle.overlay_split.specs.Nearness.{LiesNear}
+use Rattle.overlay_cuts.specs.DataPass.{data_after_passes}
+use Rattle.overlay_cuts.specs.Laws.{NameNear}
+use Rattle.overlay_cuts.specs.Nearness.{LiesNear}
 use Rattle.overlay_sweep.specs.ChainWindings.{tops_leave_range}
 use Rattle.overlay_build.specs.Graph.{Link, Graph, graph_by, data_by, has_even_nodes}
 use Rattle.overlay_build.specs.GraphOf.{link_of}

@@ -9,9 +9,9 @@ use Rattle.overlay_base.specs.Windings.{Winding, add, inverse, swap_directions, 
 use Rattle.overlay_base.specs.EdgeData.{DataSegment, SplitCall, MergeCall, Hooks, without_data, data_piece, merged, merge_runs, merge_sorted, data_join}
 use Rattle.overlay_intersections.specs.Marks.{Placing}
 use Rattle.overlay_intersections.specs.PassMarks.{marks_on}
-use Rattle.overlay_split.specs.Path.{path_from, columns_of}
-use Rattle.overlay_split.specs.Run.{Settings, placing_of_pass}
-use Rattle.overlay_split.specs.DataPass.{data_pieces, data_pieces_of_each, data_cut_by, data_pass_by, data_pass, data_after_passes}
+use Rattle.overlay_cuts.specs.Path.{path_from, columns_of}
+use Rattle.overlay_cuts.specs.Run.{Settings, placing_of_pass}
+use Rattle.overlay_cuts.specs.DataPass.{data_pieces, data_pieces_of_each, data_cut_by, data_pass_by, data_pass, data_after_passes}
 use Rattle.overlay_base.specs.HooksOf.{hooks_of}
 use Rattle.overlay_base.specs.Join.{join}
 use Rattle.overlay_base.specs.SegmentOf.{segments_of, data_segments_of}

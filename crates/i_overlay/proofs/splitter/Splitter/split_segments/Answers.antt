@@ -5,8 +5,8 @@ use Rattle.overlay_base.specs.SegmentOf.{segment_of, segments_of, data_segments_
 use Rattle.overlay_base.specs.Segments.{WholeSegment, pairs}
 use Rattle.overlay_base.specs.declared.segm.fault.Fault.{Fault}
 use Rattle.overlay_base.proofs.laws.joins.Views.{segments_ordered}
-use Rattle.overlay_split.specs.Laws.{NameNear}
-use Rattle.overlay_split.specs.Run.{Settings}
+use Rattle.overlay_cuts.specs.Laws.{NameNear}
+use Rattle.overlay_cuts.specs.Run.{Settings}
 use Rattle.overlay_split.specs.SettingsOf.{settings_of, passes_of, reach_of}
 use Rattle.overlay_snapping.specs.Counts.{chain_points}
 use Rattle.overlay_contours.specs.Splittings.{by_passes, by_snapping}
