@@ -11,6 +11,8 @@ struct fadrinzo {
     fadrinzo_point *points;
     size_t *contour_starts;
     size_t *shape_starts;
+    fadrinzo_segment *segments;
+    size_t segment_count;
 };
 
 uint32_t fadrinzo_version(void)
@@ -25,7 +27,7 @@ const char *fadrinzo_text(int status)
     case FADRINZO_NO_MEMORY: return "there is not enough memory";
     case FADRINZO_COUNT_OUT_OF_RANGE: return "the contours wind more than 2147483647 times around a point";
     case FADRINZO_POINT_OUT_OF_RANGE: return "a coordinate is outside of -1073741824 to 1073741823";
-    case FADRINZO_BAD_ARGUMENT: return "a pointer is null, no contours are arranged, or there is no such shape, rule, fill rule or relation";
+    case FADRINZO_BAD_ARGUMENT: return "a pointer is null, no contours are arranged, a segment has no length or no count, or there is no such shape, rule, fill rule, relation or rounding";
     case FADRINZO_SUBJECT_NOT_EXACT: return "two edges of the subject cross at a point without integer coordinates";
     case FADRINZO_CLIP_NOT_EXACT: return "two edges of the clip cross at a point without integer coordinates";
     default: return "there is no such status";
@@ -42,6 +44,13 @@ static void drop_result(fadrinzo *overlay)
     overlay->result = (fadrinzo_result){0};
 }
 
+static void drop_segments(fadrinzo *overlay)
+{
+    free(overlay->segments);
+    overlay->segments = NULL;
+    overlay->segment_count = 0;
+}
+
 fadrinzo *fadrinzo_new(void)
 {
     fadrinzo *overlay = calloc(1, sizeof *overlay);
@@ -56,6 +65,7 @@ void fadrinzo_free(fadrinzo *overlay)
 {
     if (overlay) {
         drop_result(overlay);
+        drop_segments(overlay);
         overlay_c_free(&overlay->handle);
         free(overlay);
     }
@@ -341,6 +351,56 @@ fadrinzo_status fadrinzo_relate(fadrinzo *overlay, int fill_rule, char letters[1
         letters[i] = entries[i] ? 'T' : 'F';
     letters[9] = 0;
     return FADRINZO_OK;
+}
+
+/* What the exports return where segments may not be split: an end is out of range, or a segment has no length or no count. */
+enum { NOT_SPLITTABLE = 3 };
+
+/* Whether the ends of segments are in range. */
+static int have_ends_in_range(const fadrinzo_edge *edges, size_t count)
+{
+    for (size_t i = 0; i < count; i++) {
+        const int32_t ends[4] = {edges[i].ax, edges[i].ay, edges[i].bx, edges[i].by};
+        if (!are_in_range(ends, 2))
+            return 0;
+    }
+    return 1;
+}
+
+/* Copies the segments out of the engine. */
+static fadrinzo_status keep_segments(fadrinzo *overlay)
+{
+    size_t count = overlay_c_sizes(&overlay->handle).segments;
+    overlay->segments = room(count, sizeof *overlay->segments);
+    if (!overlay->segments)
+        return FADRINZO_NO_MEMORY;
+    overlay_c_segments(&overlay->handle, overlay->segments, count);
+    overlay->segment_count = count;
+    return FADRINZO_OK;
+}
+
+fadrinzo_status fadrinzo_split(fadrinzo *overlay, const fadrinzo_edge *edges, size_t count, int rounding)
+{
+    if (!overlay)
+        return FADRINZO_BAD_ARGUMENT;
+    drop_segments(overlay);
+    if ((!edges && count) || (rounding != FADRINZO_SNAP_ROUNDING && rounding != FADRINZO_PAIRWISE))
+        return FADRINZO_BAD_ARGUMENT;
+    if (!have_ends_in_range(edges, count))
+        return FADRINZO_POINT_OUT_OF_RANGE;
+    fadrinzo_settings settings = settings_for(FADRINZO_FILL_NON_ZERO);
+    settings.rounding = (uint8_t)rounding;
+    uint8_t status = overlay_c_split(&overlay->handle, (const fadrinzo_segment *)edges, count, &settings);
+    if (status == NOT_SPLITTABLE)
+        return FADRINZO_BAD_ARGUMENT;
+    return status == FADRINZO_OK ? keep_segments(overlay) : (fadrinzo_status)status;
+}
+
+fadrinzo_edges fadrinzo_get_edges(const fadrinzo *overlay)
+{
+    if (!overlay)
+        return (fadrinzo_edges){0};
+    return (fadrinzo_edges){.edges = (const fadrinzo_edge *)overlay->segments, .count = overlay->segment_count};
 }
 
 fadrinzo_result fadrinzo_get(const fadrinzo *overlay)

@@ -76,8 +76,32 @@ enum {
     FADRINZO_DISJOINT = 5
 };
 
+/* How crossings of segments are rounded that have no integer coordinates. */
+enum {
+    /* by snap rounding, in one pass: no segment moves by more than half a unit, in x and in y, and few nearly parallel ones leave few */
+    FADRINZO_SNAP_ROUNDING = 0,
+    /* pair by pair, pass after pass, as i_overlay does: six nearly parallel segments can leave hundreds of thousands */
+    FADRINZO_PAIRWISE = 1
+};
+
 /* The contours of a subject and of a clip, and the result of their last overlay. Of use to one thread at a time. */
 typedef struct fadrinzo fadrinzo;
+
+/* A segment from a to b, and how often it winds for the subject and for the clip: above 0 from a to b, below 0 from b to a. */
+typedef struct {
+    int32_t ax;
+    int32_t ay;
+    int32_t bx;
+    int32_t by;
+    int32_t subject;
+    int32_t clip;
+} fadrinzo_edge;
+
+/* The segments that a split left, by their ends in x and then in y. Valid until the next split on the overlay. */
+typedef struct {
+    const fadrinzo_edge *edges;
+    size_t count;
+} fadrinzo_edges;
 
 /* The result of the last overlay: points as x, y, x, y, .., contour after contour, and contours shape after shape. Contour i has the
    points from contour_starts[i] to before contour_starts[i + 1], and shape i the contours from shape_starts[i] to before
@@ -158,6 +182,14 @@ fadrinzo_status fadrinzo_relation(fadrinzo *overlay, int relation, int fill_rule
    FADRINZO_OK letters has nine letters, row by row for the parts of the subject, and a last 0: T if some point is in both parts, and F
    if none is. Else it is unchanged. Other statuses are those of fadrinzo_relation. */
 fadrinzo_status fadrinzo_relate(fadrinzo *overlay, int fill_rule, char letters[10]);
+
+/* Splits so many segments into a planar arrangement: of those that are left every two share at most a common end, and segments on the
+   same two ends are one, with the sum of their counts. fadrinzo_get_edges returns them. Contours and the result of the last overlay stay.
+   FADRINZO_BAD_ARGUMENT if two ends are one point, a count is below -2147483647, both counts are 0, or there is no such rounding. */
+fadrinzo_status fadrinzo_split(fadrinzo *overlay, const fadrinzo_edge *edges, size_t count, int rounding);
+
+/* The segments that the last split left. Nothing after one that failed, for whatever reason. */
+fadrinzo_edges fadrinzo_get_edges(const fadrinzo *overlay);
 
 /* The result of the last overlay. Nothing after one that failed, for whatever reason: a wrong argument, a refused growth, a count. A call that
    makes no overlay leaves it, but for fadrinzo_clear. */

@@ -58,8 +58,9 @@ typedef struct {
     uint8_t fill_rule;
     /* 0 for coordinates of 32 bits, else those of 16. */
     uint8_t engine;
-    /* Where overlays of contours put crossings that are no whole points: 0 for snap rounding, else pair by pair, as
-       upstream does. Segments and lines are split pair by pair, whatever it is. */
+    /* Where crossings without integer coordinates go, of contours, of segments and of lines: 0 for snap rounding,
+       in one pass, else pair by pair, pass after pass, as upstream does. Snap rounding takes no precision and no
+       snap limit. */
     uint8_t rounding;
 } fadrinzo_settings;
 
@@ -85,7 +86,7 @@ typedef struct {
     /* Whether the last overlay_c_split joined equal segments or split one, or, if that came later, the last
        overlay_c_join joined some. Other calls leave it as it is. */
     bool has_changed;
-    /* How many passes the last split made, up to u64::MAX. */
+    /* How many passes the last split made, up to u64::MAX: 1 by snap rounding. */
     uint64_t passes;
 } fadrinzo_sizes;
 

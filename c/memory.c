@@ -79,6 +79,19 @@ static fadrinzo_status arranged(fadrinzo *overlay)
     return status ? status : fadrinzo_arranged_shapes(overlay, FADRINZO_RULE_UNION, 0);
 }
 
+static fadrinzo_status split(fadrinzo *overlay)
+{
+    static const fadrinzo_edge edges[] = {{0, 0, 5, 5, 1, 0}, {0, 5, 5, 0, 1, 0}, {-7, 3, 9, 2, 0, 1}};
+    for (int rounding = FADRINZO_SNAP_ROUNDING; rounding <= FADRINZO_PAIRWISE; rounding++) {
+        fadrinzo_status status = fadrinzo_split(overlay, edges, 3, rounding);
+        fadrinzo_edges found = fadrinzo_get_edges(overlay);
+        assert(status ? !found.edges && !found.count : found.count > 3);
+        if (status)
+            return status;
+    }
+    return FADRINZO_OK;
+}
+
 typedef fadrinzo_status call(fadrinzo *overlay);
 
 static fadrinzo *full(void)
@@ -135,6 +148,7 @@ int main(void)
     }
     static call *const calls[] = {overlay_contours, overlay_shapes, by_rules, arranged};
     refused += try_each(add, 0);
+    refused += try_each(split, 0);
     for (size_t i = 0; i < sizeof calls / sizeof *calls; i++)
         refused += try_each(calls[i], 1);
     assert(refused > 200 && growths > refused);

@@ -549,6 +549,87 @@ static void check_refusals(void)
     fadrinzo_free(NULL);
 }
 
+/* A closed chain of six edges that are nearly parallel, over most of the range. */
+static const int32_t chain[6][2] = {{929775894, 738301379},  {-820272779, 900600856}, {929775891, 738301379},
+                                    {-820272780, 900600857}, {929775893, 738301379},  {-820272774, 900600852}};
+
+/* Each segment runs from its lesser end to the other, and comes behind the one before. */
+static void check_order(fadrinzo_edges found)
+{
+    for (size_t i = 0; i < found.count; i++) {
+        fadrinzo_edge e = found.edges[i];
+        CHECK(e.ax < e.bx || (e.ax == e.bx && e.ay < e.by), "segment %zu", i);
+        CHECK(e.subject || e.clip, "segment %zu", i);
+        if (i) {
+            fadrinzo_edge d = found.edges[i - 1];
+            int32_t before[4] = {d.ax, d.ay, d.bx, d.by}, here[4] = {e.ax, e.ay, e.bx, e.by};
+            int at = 0;
+            while (at < 3 && before[at] == here[at])
+                at++;
+            CHECK(before[at] < here[at], "segment %zu", i);
+        }
+    }
+}
+
+static void check_splits(void)
+{
+    fadrinzo *overlay = fadrinzo_new();
+    CHECK(overlay, "memory");
+    fadrinzo_edge edges[6];
+    for (size_t i = 0; i < 6; i++) {
+        const int32_t *a = chain[i], *b = chain[(i + 1) % 6];
+        edges[i] = (fadrinzo_edge){a[0], a[1], b[0], b[1], 1, 0};
+    }
+    for (size_t count = 5; count <= 6; count++) {
+        CHECK(fadrinzo_split(overlay, edges, count, FADRINZO_SNAP_ROUNDING) == FADRINZO_OK, "%zu", count);
+        fadrinzo_edges found = fadrinzo_get_edges(overlay);
+        /* back and forth, all six cancel where they go through the same points; of five a path of six segments is left */
+        CHECK(found.count == (count == 5 ? 6 : 0), "%zu segments", found.count);
+        check_order(found);
+    }
+    CHECK(fadrinzo_split(overlay, edges, 6, FADRINZO_PAIRWISE) == FADRINZO_OK, "pairwise");
+    CHECK(fadrinzo_get_edges(overlay).count == 238653, "%zu segments", fadrinzo_get_edges(overlay).count);
+    check_order(fadrinzo_get_edges(overlay));
+    /* two that cross at (2, 2), and a third on one of them, back, for the clip */
+    static const fadrinzo_edge cross[] = {{0, 0, 4, 4, 1, 0}, {0, 4, 4, 0, 2, 0}, {4, 4, 0, 0, 0, 3}};
+    static const fadrinzo_edge wanted[] = {{0, 0, 2, 2, 1, -3}, {0, 4, 2, 2, 2, 0}, {2, 2, 4, 0, 2, 0}, {2, 2, 4, 4, 1, -3}};
+    for (int rounding = 0; rounding < 2; rounding++) {
+        CHECK(fadrinzo_split(overlay, cross, 3, rounding) == FADRINZO_OK, "rounding %d", rounding);
+        fadrinzo_edges found = fadrinzo_get_edges(overlay);
+        CHECK(found.count == 4 && !memcmp(found.edges, wanted, sizeof wanted), "rounding %d", rounding);
+    }
+    fadrinzo_free(overlay);
+}
+
+static void check_split_refusals(void)
+{
+    fadrinzo *overlay = fadrinzo_new();
+    CHECK(overlay, "memory");
+    CHECK(fadrinzo_add_contour(overlay, 0, squares[0].xy, 4) == FADRINZO_OK && fadrinzo_overlay(overlay, 0, 1) == FADRINZO_OK, "a square");
+    const fadrinzo_edge good = {0, 0, 1, 1, 1, 0};
+    static const struct {
+        fadrinzo_edge edge;
+        fadrinzo_status status;
+    } wrong[] = {{{0, 0, 0, 0, 1, 0}, FADRINZO_BAD_ARGUMENT}, {{0, 0, 1, 1, 0, 0}, FADRINZO_BAD_ARGUMENT},
+                 {{0, 0, 1, 1, INT32_MIN, 0}, FADRINZO_BAD_ARGUMENT}, {{0, 0, 1, FADRINZO_MAX_COORD + 1, 1, 0}, FADRINZO_POINT_OUT_OF_RANGE},
+                 {{FADRINZO_MIN_COORD - 1, 0, 1, 1, 1, 0}, FADRINZO_POINT_OUT_OF_RANGE}};
+    for (size_t i = 0; i < sizeof wrong / sizeof *wrong; i++) {
+        CHECK(fadrinzo_split(overlay, &good, 1, 0) == FADRINZO_OK && fadrinzo_get_edges(overlay).count == 1, "a segment");
+        CHECK(fadrinzo_split(overlay, &wrong[i].edge, 1, 0) == wrong[i].status, "wrong %zu", i);
+        CHECK(!fadrinzo_get_edges(overlay).count && !fadrinzo_get_edges(overlay).edges, "wrong %zu", i);
+    }
+    fadrinzo_edge great[2] = {{0, 0, 1, 1, INT32_MAX, 0}, {0, 0, 1, 1, 1, 0}};
+    CHECK(fadrinzo_split(overlay, great, 2, 0) == FADRINZO_COUNT_OUT_OF_RANGE, "a sum");
+    static const int wrong_roundings[] = {-1, 2, 256, INT32_MAX};
+    for (size_t i = 0; i < sizeof wrong_roundings / sizeof *wrong_roundings; i++)
+        CHECK(fadrinzo_split(overlay, &good, 1, wrong_roundings[i]) == FADRINZO_BAD_ARGUMENT, "rounding %d", wrong_roundings[i]);
+    CHECK(fadrinzo_split(overlay, NULL, 1, 0) == FADRINZO_BAD_ARGUMENT && fadrinzo_split(NULL, &good, 1, 0) == FADRINZO_BAD_ARGUMENT, "null");
+    CHECK(fadrinzo_split(overlay, NULL, 0, 0) == FADRINZO_OK && !fadrinzo_get_edges(overlay).count, "nothing");
+    CHECK(!fadrinzo_get_edges(NULL).count, "null");
+    CHECK(fadrinzo_get(overlay).contours == 1, "a split leaves the last overlay");
+    fadrinzo_free(overlay);
+}
+
 static void check_texts(void)
 {
     static const int codes[] = {FADRINZO_OK, FADRINZO_NO_MEMORY, FADRINZO_COUNT_OUT_OF_RANGE, FADRINZO_POINT_OUT_OF_RANGE, FADRINZO_BAD_ARGUMENT,
@@ -570,6 +651,8 @@ int main(void)
     check_relations();
     check_not_exact();
     check_refusals();
+    check_splits();
+    check_split_refusals();
     check_texts();
     puts("all as the definitions say");
     return 0;

@@ -18,7 +18,7 @@ import threading
 import weakref
 
 __all__ = ["Arrangement", "MAX_COORD", "MIN_COORD", "NotExactError", "OverlayError", "covers", "interiors_meet", "is_disjoint", "is_within",
-           "locate", "overlay", "overlay_by_rules", "overlay_polygons", "relate", "relate_pattern", "same_region",
+           "locate", "overlay", "overlay_by_rules", "overlay_polygons", "relate", "relate_pattern", "same_region", "split",
            "touches"]
 
 MIN_COORD, MAX_COORD = -(1 << 30), (1 << 30) - 1
@@ -28,6 +28,8 @@ NOTHING = 16  # the table that keeps no point
 FILLS = {"evenodd": 0, "nonzero": 1, "positive": 2, "negative": 3}
 LOCATIONS = ["inside", "boundary", "outside"]
 RELATIONS = {"interiors-meet": 0, "covers": 1, "is-within": 2, "same-region": 3, "touch": 4, "disjoint": 5}
+ROUNDINGS = {"hot-pixels": 0, "pairwise": 1}
+MAX_COUNT = (1 << 31) - 1
 VERSION = 2
 NO_MEMORY = 1
 NOT_EXACT = (6, 7)  # of the subject, of the clip
@@ -51,6 +53,14 @@ class _Result(ctypes.Structure):
         ("shapes", ctypes.c_size_t),
         ("reach", ctypes.c_uint64),
     ]
+
+
+class _Edge(ctypes.Structure):
+    _fields_ = [(name, ctypes.c_int32) for name in ("ax", "ay", "bx", "by", "subject", "clip")]
+
+
+class _Edges(ctypes.Structure):
+    _fields_ = [("edges", ctypes.POINTER(_Edge)), ("count", ctypes.c_size_t)]
 
 
 def _path():
@@ -84,6 +94,8 @@ def _load():
         "relation": (number, [handle, number, number, ctypes.POINTER(number)]),
         "relate": (number, [handle, number, ctypes.c_char_p]),
         "get": (_Result, [handle]),
+        "split": (number, [handle, ctypes.POINTER(_Edge), ctypes.c_size_t, number]),
+        "get_edges": (_Edges, [handle]),
     }
     for name, (result, arguments) in calls.items():
         call = getattr(library, f"fadrinzo_{name}")
@@ -435,6 +447,59 @@ def overlay_by_rules(subject, clip, rules, fill="nonzero", scale=None):
     with _loaded(subject, clip, scale) as handle:
         _check(_calls().fadrinzo_overlay_by_rules(handle, (ctypes.c_int * len(codes))(*codes), len(codes), fill_code))
         return _parts(_calls().fadrinzo_get(handle), scale)
+
+
+def _count(value, where):
+    """How often a segment winds, as the library takes it."""
+    if isinstance(value, bool) or not hasattr(value, "__index__"):
+        raise TypeError(f"{where}: {_shown(value)} is no whole number")
+    number = value.__index__()
+    if not -MAX_COUNT <= number <= MAX_COUNT:
+        raise ValueError(f"{where}: {_shown(value)} is outside of {-MAX_COUNT} to {MAX_COUNT}")
+    return number
+
+
+def _edge(segment, where):
+    """A segment as the library takes it: two ends, which may be followed by two counts."""
+    try:
+        found = tuple(segment)
+    except TypeError:
+        raise TypeError(f"{where}: {_shown(segment)} is no segment of two ends") from None
+    if len(found) not in (2, 4):
+        raise ValueError(f"{where}: {_shown(segment)} has {len(found)} parts, not two ends, or these and two counts")
+    (ax, ay), (bx, by) = [[_coordinate(value, None, f"{where}, {end} end: {axis}") for axis, value in zip("xy", _point(point, f"{where}, {end} end"))]
+                          for end, point in zip(("first", "second"), found)]
+    subject, clip = [_count(value, f"{where}, {name}") for name, value in zip(("subject", "clip"), found[2:] or (1, 0))]
+    if (ax, ay) == (bx, by):
+        raise ValueError(f"{where}: both ends are {_shown((ax, ay))}")
+    if subject == clip == 0:
+        raise ValueError(f"{where}: both counts are 0")
+    return _Edge(ax, ay, bx, by, subject, clip)
+
+
+def split(segments, rounding="hot-pixels"):
+    """Splits segments into a planar arrangement: a list of segments, of which every two share at most a common end.
+
+    A segment is a pair of its ends, each x and y, whole numbers from MIN_COORD to MAX_COORD, or its ends and two counts: how often it winds
+    for the subject and for the clip, from the first end to the second; 1 and 0 where they are left out. Results are ends and counts,
+    ordered by their ends in x and then in y, and each runs in that order. Of segments on the same two ends the counts are added up, and where
+    both are 0 then there is none.
+
+    Under the rounding "hot-pixels" crossings without integer coordinates are rounded by snap rounding: no segment moves by more than half a
+    unit, in x and in y, and few nearly parallel segments leave few. Under "pairwise" they are rounded pair by pair, pass after pass, as
+    i_overlay does: six nearly parallel segments can leave hundreds of thousands.
+
+    Raises ValueError or TypeError, which name the segment, OverlayError where counts add up to more than 2147483647, and MemoryError.
+
+    >>> split([((0, 0), (4, 4)), ((0, 4), (4, 0))])
+    [((0, 0), (2, 2), 1, 0), ((0, 4), (2, 2), 1, 0), ((2, 2), (4, 0), 1, 0), ((2, 2), (4, 4), 1, 0)]
+    """
+    code = _code("rounding", rounding, ROUNDINGS)
+    edges = [_edge(segment, f"segment {index}") for index, segment in enumerate(segments)]
+    with _owned(_filled(lambda handle: None)) as handle:
+        _check(_calls().fadrinzo_split(handle, (_Edge * len(edges))(*edges), len(edges), code))
+        found = _calls().fadrinzo_get_edges(handle)
+        return [((edge.ax, edge.ay), (edge.bx, edge.by), edge.subject, edge.clip) for edge in found.edges[:found.count]]
 
 
 def locate(contours, point, fill="nonzero", scale=None):

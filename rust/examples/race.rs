@@ -1,5 +1,5 @@
 //! Times the split and the whole of a split and a build, in this process, on segments from standard input: lines
-//! `S ax ay bx by` or `C ax ay bx by`, as the program `arrange` reads them.
+//! `S ax ay bx by` or `C ax ay bx by`, as the program `arrange` reads them, by passes over pairs, as upstream splits them.
 //!
 //! Usage: race [strategy] [runs], with `list`, `tree`, `frag` or `auto` (the default) and 9 runs. Each run has a new `Overlay`.
 //! Prints the least wall times in milliseconds: `split_ms=` of `split`, and `all_ms=` of `build_all`, which splits, builds the
@@ -7,7 +7,7 @@
 
 mod given;
 
-use fadrinzo::{FillRule, IntPoint, Overlay, Segment, ShapeType, Solver};
+use fadrinzo::{FillRule, IntPoint, Overlay, Rounding, Segment, ShapeType, Solver};
 use given::{collect, Stop};
 use std::io::{Read, Write};
 use std::time::Instant;
@@ -47,7 +47,7 @@ fn read() -> Result<Vec<Segment>, Stop> {
 /// The least wall time of some runs, in milliseconds.
 fn least(runs: usize, mut call: impl FnMut(&mut Overlay) -> Result<(), Stop>) -> Result<f64, Stop> {
     (0..runs).try_fold(f64::INFINITY, |least, _| {
-        let mut overlay = Overlay::new()?;
+        let mut overlay = Overlay::new()?.with_rounding(Rounding::Pairwise);
         let start = Instant::now();
         call(&mut overlay)?;
         Ok(least.min(start.elapsed().as_secs_f64() * 1e3))

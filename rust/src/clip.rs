@@ -168,13 +168,13 @@ impl Overlay {
     ///
     /// A line is a list of points, each joined to the next one. The direction of a contour counts, as for
     /// [`Overlay::overlay`]. A part goes on from one step of its line to the next where it comes to the end of the step.
-    /// Each step is cut by itself, by [`Overlay::build_clip`]: its ends stay, and other points of a part lie as near to the
-    /// step as that call says. So parts of a step follow one another by their middles, and may touch where the passes of
-    /// that call bent them. What puts the steps together is tested, not proved. Contours that were added count for nothing
-    /// here, and stay.
+    /// Each step is cut by itself, by [`Overlay::build_clip`]: its ends stay, and other points of a part lie within half a
+    /// unit of the step, in `x` and in `y`. So parts of a step follow one another, and share no more than points. Under
+    /// `Rounding::Pairwise` points lie as near as the passes move crossings, parts follow one another by their middles, and
+    /// those that the passes bent may lie beside one another. What puts the steps together is tested, not proved. Contours
+    /// that were added count for nothing here, and stay.
     ///
     /// Contours that do not meet the box of a step, and sides far from it, are left out, so a short step costs what lies near it.
-    /// The rest costs what passes over pairs cost: nearly parallel sides may make many pieces, in each step that has them.
     ///
     /// Returns `Error::Point` or `Error::Line` where a point is out of range.
     ///

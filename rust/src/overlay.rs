@@ -14,7 +14,7 @@ use std::fmt;
 pub struct Change {
     /// Whether equal segments were joined or one was split.
     pub has_changed: bool,
-    /// How many passes the engine's last split made, up to `u64::MAX`.
+    /// How many passes the engine's last split made, up to `u64::MAX`: 1 by snap rounding.
     pub passes: u64,
 }
 
@@ -35,7 +35,7 @@ pub struct Overlay {
     pub(crate) engine: ffi::Engine,
     /// What segments are split with.
     pub(crate) width: Engine,
-    /// How overlays of contours have crossings rounded.
+    /// How crossings are rounded, of contours, segments and lines.
     rounding: Rounding,
     /// How many contours of the subject and of the clip were added.
     contour_counts: [usize; 2],
@@ -55,7 +55,8 @@ pub struct Overlay {
 }
 
 impl Overlay {
-    /// An overlay of no contours, which snaps in the first 256 passes of a split.
+    /// An overlay of no contours, by snap rounding. Where it is set to `Rounding::Pairwise`, it snaps in the first 256 passes
+    /// of a split.
     ///
     /// ```
     /// use fadrinzo::Overlay;
@@ -67,8 +68,8 @@ impl Overlay {
         Overlay::with_snap_limit(256)
     }
 
-    /// An overlay that snaps in that many passes of a split, and settles after them. Overlays of contours under
-    /// `Rounding::Pairwise` snap in 256, whatever this limit is.
+    /// An overlay that, under `Rounding::Pairwise`, snaps in that many passes of a split of segments, and settles after them.
+    /// Overlays of contours then snap in 256, whatever this limit is. Snap rounding makes one pass.
     ///
     /// ```
     /// use fadrinzo::{square, Overlay, ShapeType, Solver};
@@ -118,8 +119,8 @@ impl Overlay {
         self
     }
 
-    /// The same overlay, with a rounding for the contours that it overlays from now on. Segments and lines are split
-    /// pair by pair, whatever it is.
+    /// The same overlay, with a rounding for the contours that it overlays, and the segments and lines that it splits, from
+    /// now on. Under `Rounding::Pairwise` segments and lines are split as upstream splits them.
     ///
     /// ```
     /// use fadrinzo::{FillRule, IntPoint, Overlay, OverlayRule, Rounding};
@@ -520,7 +521,7 @@ impl Overlay {
     /// comes. Parts of a segment have its number, and of segments between the same two points the first one's stays.
     ///
     /// Where each number is that of one segment, a link lies on the segment that has its number, or no farther from it than
-    /// the passes move crossings.
+    /// half a unit, in `x` and in `y`; under `Rounding::Pairwise`, than the passes move crossings.
     ///
     /// ```
     /// use fadrinzo::{square, DataSegment, FillRule, Overlay, OverlayRule, ShapeType, Solver};
@@ -649,6 +650,9 @@ impl Overlay {
     }
 
     /// Splits the segments, with no graph: `segments` is the arrangement then.
+    ///
+    /// By snap rounding no segment moves by more than half a unit, in `x` and in `y`, and the solver changes nothing of the
+    /// result; under `Rounding::Pairwise` its precision does.
     ///
     /// ```
     /// use fadrinzo::{square, Overlay, ShapeType, Solver};

@@ -58,7 +58,7 @@ impl Precision {
     pub const LOW: Precision = Precision { start: 2, progression: 3 };
 }
 
-/// Where an overlay of contours puts crossings of edges that have no whole coordinates.
+/// Where crossings without integer coordinates go, of contours, of segments and of lines.
 ///
 /// ```
 /// use fadrinzo::Rounding;
@@ -71,7 +71,7 @@ impl Precision {
 pub enum Rounding {
     /// By snap rounding, in one pass: a crossing goes to the whole point whose pixel it lies in, and the edges that meet
     /// the pixel of such a point go through that point. No edge moves by more than half a unit, in `x` and in `y`, and few
-    /// nearly parallel edges leave few points.
+    /// nearly parallel edges leave few points. It takes no [`Precision`].
     #[default]
     HotPixels = 0,
     /// As upstream does: pass after pass, each crossing by itself, within the radius of a [`Precision`]. How far edges

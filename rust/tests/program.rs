@@ -8,7 +8,8 @@ mod common;
 
 use common::Random;
 use fadrinzo::{
-    Engine, FillRule, IntPoint, Overlay, OverlayNode, OverlayRule, Precision, Segment, ShapeType, Solver, Strategy,
+    Engine, FillRule, IntPoint, Overlay, OverlayNode, OverlayRule, Precision, Rounding, Segment, ShapeType, Solver,
+    Strategy,
 };
 use std::fmt::Write as _;
 use std::io::Write as _;
@@ -138,7 +139,7 @@ fn sides(random: &mut Random, width: i32) -> Vec<Segment> {
 #[test]
 #[ignore = "needs the program `arrange`, which ARRANGE names"]
 fn package_and_program_agree() {
-    let mut overlay = Overlay::new().unwrap();
+    let mut overlay = Overlay::new().unwrap().with_rounding(Rounding::Pairwise);
     let mut random = Random(11);
     for round in 0..300 {
         let engine = *pick(&mut random, &ENGINES);
@@ -249,7 +250,7 @@ impl Words {
     /// What is wanted of upstream, or `None` where the run is left out: because it takes 256 passes, or leaves at most four
     /// segments under a tree or a grid.
     fn wanted(&self, segments: &[Segment]) -> Option<String> {
-        let mut overlay = Overlay::new().unwrap().with_engine(self.engine.1);
+        let mut overlay = Overlay::new().unwrap().with_rounding(Rounding::Pairwise).with_engine(self.engine.1);
         let solver = Solver { strategy: self.strategy.1, precision: self.precision.1 };
         let passes = overlay.split(segments, solver).unwrap().passes;
         let is_listed = matches!(self.strategy.1, Strategy::List | Strategy::Auto);

@@ -6,8 +6,8 @@ mod model;
 
 use common::Random;
 use fadrinzo::{
-    Engine, Error, Fault, FillRule, IntPoint, Overlay, OverlayRule, Precision, RuleTable, Segment, ShapeCountBoolean,
-    Solver, Strategy,
+    Engine, Error, Fault, FillRule, IntPoint, Overlay, OverlayRule, Precision, Rounding, RuleTable, Segment,
+    ShapeCountBoolean, Solver, Strategy,
 };
 use model::{Count, Point, Radius, Split, TooLarge};
 use std::fmt::Write as _;
@@ -326,7 +326,8 @@ fn runs_are_as_defined() {
     let mut overlays = Vec::new();
     for limit in LIMITS {
         for engine in [Engine::I32, Engine::I16] {
-            overlays.push(Overlay::with_snap_limit(limit).unwrap().with_engine(engine));
+            overlays
+                .push(Overlay::with_snap_limit(limit).unwrap().with_rounding(Rounding::Pairwise).with_engine(engine));
         }
     }
     let (mut random, mut compared, mut refused) = (Random(seed), 0, 0);

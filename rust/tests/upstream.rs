@@ -2,7 +2,8 @@
 //! of each test names the upstream module and the tests there.
 
 use fadrinzo::{
-    cross, ClipRule, CrossType, FillRule, IntPoint, LineSegment, Overlay, Precision, Segment, ShapeCountBoolean, Solver,
+    cross, ClipRule, CrossType, FillRule, IntPoint, LineSegment, Overlay, Precision, Rounding, Segment,
+    ShapeCountBoolean, Solver,
 };
 
 const SOLVERS: [Solver; 3] = [Solver::LIST, Solver::TREE, Solver::FRAG];
@@ -28,14 +29,14 @@ fn in_order(mut segments: Vec<Segment>) -> Vec<Segment> {
 
 /// What a join leaves.
 fn joined(segments: &[Segment]) -> Vec<Segment> {
-    let mut overlay = Overlay::new().unwrap();
+    let mut overlay = Overlay::new().unwrap().with_rounding(Rounding::Pairwise);
     overlay.join(segments).unwrap();
     overlay.segments().unwrap().to_vec()
 }
 
 /// Each strategy splits the given segments into the wanted ones.
 fn split_into(given: &[Segment], wanted: &[Segment]) {
-    let mut overlay = Overlay::new().unwrap();
+    let mut overlay = Overlay::new().unwrap().with_rounding(Rounding::Pairwise);
     for solver in SOLVERS {
         overlay.split(given, solver).unwrap();
         assert_eq!(overlay.segments().unwrap(), wanted, "{:?}", solver.strategy);
@@ -118,7 +119,7 @@ fn no_segment_is_split_at_its_end() {
     let pairs = |count: usize| (0..count).flat_map(move |first| (first + 1..count).map(move |second| (first, second)));
     let count = ShapeCountBoolean::SUBJ_DIRECT;
     let edges: Vec<Segment> = pairs(points.len()).map(|(a, b)| Segment { a: points[a], b: points[b], count }).collect();
-    let mut overlay = Overlay::new().unwrap();
+    let mut overlay = Overlay::new().unwrap().with_rounding(Rounding::Pairwise);
     for (first, second) in pairs(edges.len()) {
         let (target, other) = (edges[first], edges[second]);
         for (start, radius) in [(0, 1), (1, 2), (2, 4), (4, 16)] {
@@ -188,7 +189,7 @@ fn ends_on_the_border_of_a_column() {
 /// `build::string`: `empty_segment_set_builds_empty_graph_for_every_fill_rule`.
 #[test]
 fn no_lines() {
-    let mut overlay = Overlay::new().unwrap();
+    let mut overlay = Overlay::new().unwrap().with_rounding(Rounding::Pairwise);
     for fill in [FillRule::EvenOdd, FillRule::NonZero, FillRule::Positive, FillRule::Negative] {
         let graph = overlay.build_clip(&[], ClipRule::default(), fill, Solver::AUTO).unwrap();
         assert!(graph.links().is_empty());
@@ -203,7 +204,7 @@ fn clipped(contour: &[IntPoint], line: &[IntPoint], invert: bool) -> Vec<(IntPoi
     let steps = line.windows(2).map(|step| LineSegment::line(step[0], step[1]));
     let segments: Vec<LineSegment> = sides.chain(steps).collect();
     let rule = ClipRule { invert, boundary_included: false };
-    let mut overlay = Overlay::new().unwrap();
+    let mut overlay = Overlay::new().unwrap().with_rounding(Rounding::Pairwise);
     let graph = overlay.build_clip(&segments, rule, FillRule::NonZero, Solver::AUTO).unwrap();
     graph.links().iter().map(|link| (link.a.point, link.b.point)).collect()
 }

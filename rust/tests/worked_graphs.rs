@@ -1,8 +1,8 @@
 //! Overlays of segments worked by hand, under each strategy and with both engines.
 
 use fadrinzo::{
-    Engine, Error, Fault, FillRule, IntPoint, Overlay, OverlayNode, OverlayRule, Precision, Segment, ShapeCountBoolean,
-    Solver, Strategy,
+    Engine, Error, Fault, FillRule, IntPoint, Overlay, OverlayNode, OverlayRule, Precision, Rounding, Segment,
+    ShapeCountBoolean, Solver, Strategy,
 };
 
 /// A segment as the tables write it: from, to, the counts for the subject and the clip.
@@ -78,7 +78,7 @@ fn high(strategy: Strategy) -> Solver {
 fn two_squares() {
     for engine in [Engine::I16, Engine::I32] {
         for strategy in STRATEGIES {
-            let mut overlay = Overlay::new().unwrap().with_engine(engine);
+            let mut overlay = Overlay::new().unwrap().with_rounding(Rounding::Pairwise).with_engine(engine);
             let (rule, fill) = (OverlayRule::Intersect, FillRule::NonZero);
             let graph = overlay.build_graph_with_solver(&segments(&SQUARES), rule, fill, high(strategy)).unwrap();
             let links: Vec<_> =
@@ -121,7 +121,7 @@ fn fills_of_all_links() {
     for solver in STRATEGIES.map(high) {
         for (given, fill_rules, wanted) in FILLS {
             for &fill_rule in fill_rules {
-                let mut overlay = Overlay::new().unwrap();
+                let mut overlay = Overlay::new().unwrap().with_rounding(Rounding::Pairwise);
                 let graph = overlay.build_all(&segments(given), fill_rule, solver).unwrap();
                 let fills: Vec<u8> = graph.links().iter().map(|link| link.fill).collect();
                 assert_eq!(fills, wanted, "{solver:?} {fill_rule:?}");
@@ -137,7 +137,7 @@ fn nodes_of_all_links() {
         for (given, links, nodes, wanted) in
             [(&SQUARES[..], 12, 10, [&[5, 6, 2, 3][..], &[9, 10, 4, 8]]), (&LINE[..], 1, 2, [&[0], &[0]])]
         {
-            let mut overlay = Overlay::new().unwrap();
+            let mut overlay = Overlay::new().unwrap().with_rounding(Rounding::Pairwise);
             let graph = overlay.build_all(&segments(given), FillRule::EvenOdd, solver).unwrap();
             assert_eq!((graph.links().len(), graph.node_count()), (links, nodes), "{solver:?}");
             let crosses: Vec<OverlayNode> =
@@ -163,7 +163,7 @@ fn ends_of_links(
 #[test]
 fn what_each_rule_keeps() {
     for engine in [Engine::I16, Engine::I32] {
-        let mut overlay = Overlay::new().unwrap().with_engine(engine);
+        let mut overlay = Overlay::new().unwrap().with_rounding(Rounding::Pairwise).with_engine(engine);
         for solver in STRATEGIES.map(high) {
             for fill in FILL_RULES {
                 for (rule, kept) in KEPT {
@@ -180,7 +180,7 @@ fn what_each_rule_keeps() {
 
 #[test]
 fn nothing_gives_an_empty_graph() {
-    let mut overlay = Overlay::new().unwrap();
+    let mut overlay = Overlay::new().unwrap().with_rounding(Rounding::Pairwise);
     for solver in STRATEGIES.map(high) {
         for fill in FILL_RULES {
             for (rule, _) in KEPT {
@@ -244,7 +244,7 @@ const CALLS: [Call; 6] = [
 
 #[test]
 fn one_overlay_is_used_again() {
-    let mut overlay = Overlay::new().unwrap();
+    let mut overlay = Overlay::new().unwrap().with_rounding(Rounding::Pairwise);
     for solver in STRATEGIES.map(high) {
         for Call { name, given, rule, sizes, left } in CALLS {
             let graph = overlay.build_graph_with_solver(&segments(given), rule, FillRule::NonZero, solver);
@@ -258,7 +258,7 @@ fn one_overlay_is_used_again() {
 /// A split leaves these counts as they are, and a build of all links refuses them.
 #[test]
 fn greatest_counts_above_one_another() {
-    let mut overlay = Overlay::new().unwrap();
+    let mut overlay = Overlay::new().unwrap().with_rounding(Rounding::Pairwise);
     for solver in STRATEGIES.map(high) {
         let change = overlay.split(&segments(&GREATEST_COUNTS), solver).unwrap();
         assert_eq!((change.has_changed, change.passes), (false, 1), "{solver:?}");
@@ -273,7 +273,7 @@ fn greatest_counts_above_one_another() {
 fn a_line_of_the_greatest_count_is_bent() {
     let given = segments(&[((0, 0), (100, 1), 1, 0), ((1, -50), (1, 50), i32::MAX, 0)]);
     let wanted = [((0, 0), (1, -50), -i32::MAX, 0), ((0, 0), (1, 50), i32::MAX, 0), ((0, 0), (100, 1), 1, 0)];
-    let mut overlay = Overlay::new().unwrap();
+    let mut overlay = Overlay::new().unwrap().with_rounding(Rounding::Pairwise);
     for solver in STRATEGIES.map(high) {
         let change = overlay.split(&given, solver).unwrap();
         assert_eq!((change.has_changed, change.passes), (true, 2), "{solver:?}");
@@ -296,7 +296,7 @@ fn closed_star() -> Vec<Row> {
 /// Splits the star, and wants an even number of links at each node of each rule's graph. Returns the number of passes and of
 /// segments.
 fn even_star(strategy: Strategy, limit: u32) -> (u64, usize) {
-    let mut overlay = Overlay::with_snap_limit(limit).unwrap();
+    let mut overlay = Overlay::with_snap_limit(limit).unwrap().with_rounding(Rounding::Pairwise);
     let change = overlay.split(&segments(&closed_star()), high(strategy)).unwrap();
     assert!(change.has_changed);
     let arranged = overlay.segments().unwrap().to_vec();

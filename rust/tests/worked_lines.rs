@@ -1,7 +1,8 @@
 //! Lines cut by a square, worked by hand, under each strategy and with both engines.
 
 use fadrinzo::{
-    ClipRule, Engine, Error, Fault, FillRule, IntPoint, LineSegment, Overlay, Precision, SegmentFill, Solver, Strategy,
+    ClipRule, Engine, Error, Fault, FillRule, IntPoint, LineSegment, Overlay, Precision, Rounding, SegmentFill, Solver,
+    Strategy,
 };
 
 /// A segment as the tables write it: from, to, the count for the subject, the mask of the line.
@@ -66,7 +67,7 @@ fn cut(overlay: &mut Overlay, line: Row, solver: Solver, fill: FillRule, rule: C
 #[test]
 fn lines_over_a_square() {
     for engine in [Engine::I16, Engine::I32] {
-        let mut overlay = Overlay::new().unwrap().with_engine(engine);
+        let mut overlay = Overlay::new().unwrap().with_rounding(Rounding::Pairwise).with_engine(engine);
         for solver in STRATEGIES.map(high) {
             for fill in [FillRule::EvenOdd, FillRule::NonZero, FillRule::Positive] {
                 for (name, line, invert, boundary_included, links) in CUTS {
@@ -84,7 +85,7 @@ fn lines_over_a_square() {
 fn a_line_over_a_square_without_inside() {
     let parts: &[LinkRow] = &[((-5, 5), (0, 5), 8), ((0, 5), (10, 5), 8), ((10, 5), (15, 5), 8)];
     for engine in [Engine::I16, Engine::I32] {
-        let mut overlay = Overlay::new().unwrap().with_engine(engine);
+        let mut overlay = Overlay::new().unwrap().with_rounding(Rounding::Pairwise).with_engine(engine);
         for solver in STRATEGIES.map(high) {
             for (invert, boundary_included) in [(false, false), (false, true), (true, false), (true, true)] {
                 let rule = ClipRule { invert, boundary_included };
@@ -98,7 +99,7 @@ fn a_line_over_a_square_without_inside() {
 /// A line along the lower side, or one back, becomes a mask of that side.
 #[test]
 fn a_line_joins_a_side() {
-    let mut overlay = Overlay::new().unwrap();
+    let mut overlay = Overlay::new().unwrap().with_rounding(Rounding::Pairwise);
     for solver in STRATEGIES.map(high) {
         for (line, mask) in [(ALONG, 2), (BACK, 1)] {
             cut(&mut overlay, line, solver, FillRule::NonZero, INSIDE);
@@ -126,7 +127,7 @@ const COUNTS: [(&[Row], Result<usize, Error>, &[Row]); 5] = [
 
 #[test]
 fn counts_of_lines() {
-    let mut overlay = Overlay::new().unwrap();
+    let mut overlay = Overlay::new().unwrap().with_rounding(Rounding::Pairwise);
     for solver in STRATEGIES.map(high) {
         for (given, wanted, left) in COUNTS {
             let built = overlay.build_clip(&segments(given), INSIDE, FillRule::NonZero, solver);
@@ -141,7 +142,7 @@ fn counts_of_lines() {
 fn a_part_inside() {
     let mut given = segments(&SQUARE);
     given.push(LineSegment::line(IntPoint::new(-5, 5), IntPoint::new(15, 5)));
-    let mut overlay = Overlay::new().unwrap();
+    let mut overlay = Overlay::new().unwrap().with_rounding(Rounding::Pairwise);
     let graph = overlay.build_clip(&given, INSIDE, FillRule::NonZero, Solver::AUTO).unwrap();
     let ends: Vec<_> = graph.links().iter().map(|link| (link.a.point, link.b.point)).collect();
     assert_eq!(ends, [(IntPoint::new(0, 5), IntPoint::new(10, 5))]);

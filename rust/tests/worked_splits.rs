@@ -1,7 +1,8 @@
 //! Splits worked by hand, under each strategy and with both engines.
 
 use fadrinzo::{
-    Change, Engine, Error, Fault, IntPoint, Overlay, Precision, Segment, ShapeCountBoolean, ShapeType, Solver, Strategy,
+    Change, Engine, Error, Fault, IntPoint, Overlay, Precision, Rounding, Segment, ShapeCountBoolean, ShapeType,
+    Solver, Strategy,
 };
 use std::collections::BTreeMap;
 
@@ -298,7 +299,8 @@ fn splits() {
     for engine in ENGINES {
         for strategy in STRATEGIES {
             for (name, precision, limit, given, flag, passes, wanted) in SPLITS {
-                let mut overlay = Overlay::with_snap_limit(limit).unwrap().with_engine(engine);
+                let mut overlay =
+                    Overlay::with_snap_limit(limit).unwrap().with_rounding(Rounding::Pairwise).with_engine(engine);
                 let (change, rows) = split(&mut overlay, given, Solver { strategy, precision });
                 let wanted_change = flag.map(|has_changed| Change { has_changed, passes });
                 assert_eq!((change, rows.as_slice()), (wanted_change, wanted), "{name} {engine:?} {strategy:?}");
@@ -320,7 +322,7 @@ fn segments_on_one_pair() {
         b: b.into(),
         count: ShapeCountBoolean { subj, clip },
     };
-    let mut overlay = Overlay::new().unwrap();
+    let mut overlay = Overlay::new().unwrap().with_rounding(Rounding::Pairwise);
     for strategy in STRATEGIES {
         for (counts, (subj, clip)) in cases {
             let given: Vec<Segment> = counts.iter().map(|&(a, b, subj, clip)| segment(a, b, subj, clip)).collect();
@@ -334,7 +336,8 @@ fn segments_on_one_pair() {
 fn split_slivers(factor: i32, limit: u32, solver: Solver) -> (u64, usize) {
     let slivers = [((282, 3), (1000, 0), 1), ((143, 2), (886, 1), 1), ((164, 2), (705, 1), 1)];
     let given = slivers.map(|((ax, ay), (bx, by), subj)| ((ax * factor, ay), (bx * factor, by), subj));
-    let mut overlay = Overlay::with_snap_limit(limit).unwrap().with_engine(Engine::I16);
+    let mut overlay =
+        Overlay::with_snap_limit(limit).unwrap().with_rounding(Rounding::Pairwise).with_engine(Engine::I16);
     let (change, rows) = split(&mut overlay, &given, solver);
     let Change { has_changed, passes } = change.unwrap();
     assert!(has_changed);
@@ -420,7 +423,8 @@ fn splits_at_the_limits() {
         for strategy in STRATEGIES {
             for limit in [256, 0] {
                 for FarSplit { name, given, after } in &splits {
-                    let mut overlay = Overlay::with_snap_limit(limit).unwrap().with_engine(engine);
+                    let mut overlay =
+                        Overlay::with_snap_limit(limit).unwrap().with_rounding(Rounding::Pairwise).with_engine(engine);
                     let (change, rows) = split(&mut overlay, given, high(strategy));
                     assert_eq!(change, Ok(Change { has_changed: true, passes: 2 }), "{name} {strategy:?} {limit}");
                     assert_eq!(rows, after, "{name} {strategy:?} {limit}");
@@ -459,7 +463,8 @@ fn check_agreed(given: &[Row], most_passes: u64) {
         for precision in PRECISIONS {
             for limit in [0, 1, 256] {
                 let by = |strategy| {
-                    let mut overlay = Overlay::with_snap_limit(limit).unwrap().with_engine(engine);
+                    let mut overlay =
+                        Overlay::with_snap_limit(limit).unwrap().with_rounding(Rounding::Pairwise).with_engine(engine);
                     split(&mut overlay, given, Solver { strategy, precision })
                 };
                 let (change, rows) = by(Strategy::List);
@@ -497,7 +502,7 @@ fn segments_of_a_small_square() {
 fn an_overlay_after_a_refusal() {
     const CROSS: [Row; 2] = [((-2, 0), (2, 0), 1), ((0, -2), (0, 2), 1)];
     const LARGE: [Row; 2] = [((0, 0), (4, 0), i32::MAX), ((0, 0), (4, 0), i32::MAX)];
-    let mut overlay = Overlay::new().unwrap();
+    let mut overlay = Overlay::new().unwrap().with_rounding(Rounding::Pairwise);
     let (first, rows) = split(&mut overlay, &CROSS, Solver::AUTO);
     assert_eq!(first, Ok(Change { has_changed: true, passes: 1 }));
     assert_eq!(split(&mut overlay, &LARGE, Solver::AUTO), (Err(Error::Fault(Fault::CountOutOfRange)), Vec::new()));
@@ -515,7 +520,7 @@ fn crossed_lines(count: i32) -> Vec<Row> {
 
 /// Splits under every strategy, and wants one result. Returns it, with what the split did.
 fn split_alike(given: &[Row]) -> (Vec<Row>, Change) {
-    let mut overlay = Overlay::new().unwrap();
+    let mut overlay = Overlay::new().unwrap().with_rounding(Rounding::Pairwise);
     let (change, rows) = split(&mut overlay, given, Solver::LIST);
     for solver in [Solver::TREE, Solver::FRAG, Solver::AUTO] {
         assert!(split(&mut overlay, given, solver) == (change, rows.clone()), "{solver:?}");
@@ -637,7 +642,7 @@ fn joins() {
         count: ShapeCountBoolean { subj, clip },
     };
     for engine in ENGINES {
-        let mut overlay = Overlay::new().unwrap().with_engine(engine);
+        let mut overlay = Overlay::new().unwrap().with_rounding(Rounding::Pairwise).with_engine(engine);
         for (name, given, flag, wanted) in JOINS {
             let joined = overlay.join(&given.iter().map(segment).collect::<Vec<_>>());
             assert_eq!(joined.map(|change| change.has_changed), flag, "{name} {engine:?}");
@@ -675,7 +680,7 @@ fn sides_of_neighbors_cancel() {
     }
     wanted.sort_by_key(|segment| (segment.a.x, segment.a.y, segment.b.x, segment.b.y));
     for (engine, strategy) in ENGINES.into_iter().flat_map(|engine| STRATEGIES.map(|strategy| (engine, strategy))) {
-        let mut overlay = Overlay::new().unwrap().with_engine(engine);
+        let mut overlay = Overlay::new().unwrap().with_rounding(Rounding::Pairwise).with_engine(engine);
         let change = overlay.split(&sides_of_squares(), Solver { strategy, precision: Precision::HIGH }).unwrap();
         assert_eq!((change.has_changed, change.passes), (true, 1), "{engine:?} {strategy:?}");
         assert_eq!(overlay.segments().unwrap(), wanted, "{engine:?} {strategy:?}");
@@ -687,7 +692,7 @@ fn sides_of_neighbors_cancel() {
 #[test]
 fn great_counts_of_neighbors() {
     let mut segments = sides_of_squares();
-    let mut overlay = Overlay::new().unwrap();
+    let mut overlay = Overlay::new().unwrap().with_rounding(Rounding::Pairwise);
     segments.push(side((0, 0), (1, 0), i32::MAX - 1));
     overlay.split(&segments, Solver::AUTO).unwrap();
     let kept = overlay.segments().unwrap();

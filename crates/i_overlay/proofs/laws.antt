@@ -6,4 +6,5 @@ pub mod SnapLines
 pub mod Splits
 pub mod Overlays
 pub mod NamedLinks
+pub mod LineData
 pub mod GivenAgain

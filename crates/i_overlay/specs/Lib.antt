@@ -3,6 +3,7 @@ pub mod FarRegions
 pub mod LinesAlong
 pub mod BesideLines
 pub mod Headline
+pub mod LineData
 pub mod SplitLists
 pub mod CallOf
 pub mod GivenAgain

@@ -16,6 +16,7 @@ use Rattle.overlay_snapping.specs.SnapOf.{HasSnapData, SnapChanges}
 use Rattle.overlay_contours.specs.Splittings.{Splitting, by_passes, by_snapping, SumsLeaveRange}
 use Rattle.i_overlay.specs.Courses.{Course}
 use Rattle.i_overlay.specs.Headline.{IsSplitBy}
+use Rattle.i_overlay.specs.LineData.{LinesKeepData}
 
 -- The list has the data that passes, or the chains of snap rounding, make of what is given with some store that is a first one.
 abbrev pub HasDataOf : {C I D S : Type 0} {m : _} {w : _} {o : _} {e : _} {p : _} → Ghosts D C S → (S → Type 0) → Splitting → ℕ → Vec (Segment C I D m w o e p) Global → Vec (Segment C I D m w o e p) Global → Type 0
@@ -42,6 +43,7 @@ pub record SplitsList {C I D S : Type 0} {m : _} {w : _} {o : _} {e : _} {p : _}
   pub edge_data : HasDataOf hooks IsFirst course.splitting course.passes given list
   pub kept_data : HasWhatHolds hooks given list
   pub named_data : LiesNearAllNamed hooks course.halves given list
+  pub line_data : LinesKeepData hooks given list
   -- no sum on the way is too large
   pub fits : SumsLeaveRange course.splitting (segments_of given.items) → ⊥
 

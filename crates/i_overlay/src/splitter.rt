@@ -18,7 +18,7 @@ use overlay_snapping::snap::solver::SnapSolver;
 use overlay_split::split::solver::SplitSolver;
 use std::alloc::Global;
 
-/// Splits lists of segments by the rounding that it was made for: by snap rounding, as `SnapSolver` does, or by passes over
+/// Splits lists of segments by the rounding that it is set to: by snap rounding, as `SnapSolver` does, or by passes over
 /// pairs, as `SplitSolver` does.
 #[derive(Drop)]
 pub struct Splitter<I: OverlayInt> {
@@ -62,7 +62,19 @@ impl<I: OverlayInt> Splitter<I> {
         }
     }
 
-    /// The rounding that it was made for.
+    /// Splits by that rounding from now on. What it reports of the last call stays.
+    pub fn set_rounding(&mut self, rounding: Rounding)
+        ensures rounding { rounding_in self.new ≡ rounding }
+        ensures limit { snap_limit_in self.new ≡ snap_limit_in self.old }
+        ensures passes { passes_in self.new ≡ passes_in self.old }
+        ensures reach { reach_in self.new ≡ reach_in self.old }
+        ensures looked { looked_in self.new ≡ looked_in self.old }
+    {
+        let kept = &mut self.rounding;
+        *kept = rounding;
+    }
+
+    /// The rounding by which it splits.
     pub fn rounding(&self) -> Rounding
         ensures { result ≡ rounding_in self.now }
     {
@@ -102,6 +114,10 @@ impl<I: OverlayInt> Splitter<I> {
     /// it is that of `SplitSolver::split_segments`, and lies as near as `reach` then returns. A list that `is_arranged`
     /// stays as it is, with its data. The solver's strategy does not change the result, and its precision only that of
     /// passes over pairs.
+    ///
+    /// Each segment lies as near to every given one that its data names as the split moves things, where data names given
+    /// segments and the hooks name no others. Where of two that merge the hooks take the data of a line, each segment along
+    /// which a line runs has the data of a line (`line_data`).
     ///
     /// Returns `Fault::CountOutOfRange` only where a running sum of counts on one pair of ends leaves
     /// `-i32::MAX..=i32::MAX`, and, memory being found, wherever one does; `Fault::Memory` where a growth is refused. Where

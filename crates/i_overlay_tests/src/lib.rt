@@ -9,6 +9,8 @@ mod clip;
 #[cfg(test)]
 mod library;
 #[cfg(test)]
+mod line_numbers;
+#[cfg(test)]
 mod measure;
 #[cfg(test)]
 mod meetings;

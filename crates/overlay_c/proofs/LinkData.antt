@@ -1,8 +1,8 @@
 -- Data that is handed through: what a segment is made with, what hooks keep of it, and what links have.
-use Rattle.std.proofs.Common.{◌≡◌, ◌∙◌, ◌⊎◌, inl, inr, ℕ, ℤ, Bool, ◌&&◌, true, false, refl, sym, ap, ap₂, subst, arith, List, [], ◌∷◌, map, Result, Ok, Err}
-use Rattle.std.specs.Prelude.{IsTrue, ⊤, OnErr, IfErr}
+use Rattle.std.proofs.Common.{◌≡◌, ◌∙◌, ◌⊎◌, inl, inr, ℕ, ℤ, Bool, ◌&&◌, true, false, refl, sym, ap, subst, arith, List, [], ◌∷◌, map}
+use Rattle.std.specs.Prelude.{IsTrue, ⊤, Vec}
+use Rattle.std.specs.Global.{Global}
 use Rattle.std.specs.List.{list_all}
-use Rattle.std.specs.Result.{IsErrAnd}
 use Rattle.std.proofs.lemmas.Grind.{common_steps}
 use Rattle.std.proofs.lemmas.Bool.{or_left}
 use Rattle.std.proofs.lemmas.List.Elements.{All-map}
@@ -14,30 +14,33 @@ use Rattle.overlay_base.specs.Rules.{holds, keeps_fill}
 use Rattle.overlay_base.specs.Windings.{Winding}
 use Rattle.overlay_base.specs.Segments.{WholeSegment}
 use Rattle.overlay_base.specs.EdgeData.{DataSegment, Hooks, data_piece, without_data}
+use Rattle.overlay_base.specs.HooksOf.{hooks_of}
+use Rattle.overlay_base.specs.Join.{join}
+use Rattle.overlay_base.specs.SegmentOf.{segments_of, data_segments_of}
+use Rattle.overlay_base.specs.declared.overlay_core.edge_data.OverlayEdgeData.{Ghosts}
+use Rattle.overlay_base.specs.declared.segm.segment.Segment.{Segment}
 use Rattle.overlay_base.specs.declared.overlay_core.fill_rule.FillRule.{FillRule}
 use Rattle.overlay_base.specs.declared.overlay_core.link.OverlayLink.{OverlayLink}
 use Rattle.overlay_base.specs.declared.overlay_core.overlay_rule.OverlayRule.{OverlayRule}
-use Rattle.overlay_base.specs.declared.segm.fault.Fault.{Fault}
-use Rattle.overlay_base.specs.declared.segm.fault.Fault.TheVariants.{CountOutOfRange}
 use Rattle.overlay_base.proofs.laws.joins.DataJoins.{bare}
 use Rattle.overlay_cuts.specs.DataPass.{data_after_passes, IsDataAfter}
 use Rattle.overlay_cuts.specs.Laws.{HooksKeep, HooksNameNoOther, NameNear}
-use Rattle.overlay_cuts.specs.Nearness.{LiesNear, reach_of_run}
-use Rattle.overlay_cuts.specs.Run.{Settings, after_passes}
-use Rattle.overlay_split.specs.SettingsOf.{passes_of}
-use Rattle.overlay_cuts.proofs.laws.passes.DataPasses.{data_is_beside}
-use Rattle.overlay_build.specs.Graph.{Graph, data_by}
+use Rattle.overlay_cuts.specs.Nearness.{LiesNear}
+use Rattle.overlay_snapping.specs.Chains.{AreSnapCuts}
+use Rattle.overlay_snapping.specs.SnapOf.{data_snap}
+use Rattle.overlay_contours.specs.Splittings.{Splitting, by_passes, by_snapping}
+use Rattle.overlay_build.specs.Graph.{data_by}
 use Rattle.overlay_build.specs.GraphOf.{link_of}
-use Rattle.i_overlay.specs.Headline.{IsSplit, IsOverlay, IsRefused, LinksNameNear}
+use Rattle.i_overlay.specs.Headline.{LinksNameNear}
+use Rattle.i_overlay.specs.SplitLists.{HasDataOf}
+use Rattle.i_overlay.specs.SplitterOf.{passes_in, reach_in}
 use Rattle.std.proofs.lemmas.Bool.{and_from}
 use Rattle.overlay_c.proofs.Usable.{are_splittable}
-use Rattle.overlay_c.specs.Kept.{given_by, are_usable, engine_settings, kept_links, TaggedLink, KeepsData}
+use Rattle.overlay_c.specs.Kept.{given_by, are_usable, core_splitting, kept_links, TaggedLink, IsDataOf, KeepsData}
 use Rattle.overlay_c.specs.Records.{asks, asked_by, piece_of, fill_rule_of}
 use Rattle.overlay_c.specs.Tags.{keeping, with_tag, untagged, tagged_by}
 use Rattle.overlay_c.specs.declared.cores.Core.{Core}
 use Rattle.overlay_c.specs.declared.records.SettingsRecord.{SettingsRecord}
-use Rattle.overlay_c.specs.declared.refusal.Refusal.{Refusal}
-use Rattle.overlay_c.specs.declared.refusal.Refusal.TheVariants.{Refused}
 use Rattle.overlay_c.specs.declared.tags.Tag.{Tag}
 use Rattle.overlay_c.specs.declared.tags.TaggedRecord.{TaggedRecord}
 
@@ -101,67 +104,47 @@ keeping_names_no_other names = record {
 
 -- ---- what is left
 
-none_left : {A B : Type 0} (f : A → B) (xs : List A) → map f xs ≡ [] → xs ≡ []
-none_left f [] e = refl
-none_left f (x ∷ xs) e = absurd (cc)
+-- what a split makes of data, by hooks and with a first store, of segments that are these without their data
+abbrev pub GivesData : {D S : Type 0} → Hooks D S → (S → Type 0) → Splitting → ℕ → List WholeSegment → List (DataSegment D) → List (DataSegment D) → Type 0
+GivesData hooks IsFirst (by_passes settings) passes xs loaded now = IsDataAfter hooks IsFirst settings loaded now passes
+GivesData {S = S} hooks IsFirst by_snapping passes xs loaded now = (store : S) × IsFirst store × ((on : Pair → List Point) → AreSnapCuts (join xs) on → now ≡ (data_snap hooks on loaded store).0)
 
--- the data of an arrangement is what the passes make of what was given, also of an arrangement of nothing
-pub data_after : {D : Type 0} (hooks : Hooks D ⊤) (settings : Settings) (loaded now : List (DataSegment D)) (xs segments : List WholeSegment) (k : ℕ) {A : Type 0} (IsFirst : ⊤ → Type 0) → xs ≡ without_data loaded → segments ≡ after_passes settings xs k → segments ≡ without_data now
-    → (A → now ≡ []) → A ⊎ IsDataAfter hooks IsFirst settings loaded now k → now ≡ (data_after_passes hooks settings loaded (tt {0}) k).0
-data_after hooks settings loaded now xs segments k IsFirst eb arranged same empty (inr (store, first, e)) = e
-data_after hooks settings loaded now xs segments k IsFirst eb arranged same empty (inl e) =
-    let after = (data_after_passes hooks settings loaded (tt {0}) k).0 in
-    empty e ∙ sym (none_left _ after (data_is_beside hooks settings loaded (tt {0}) k ∙ ap (λ l. after_passes settings l k) (sym eb) ∙ sym arranged ∙ same ∙ ap without_data (empty e)))
+pub data_from : {C I D S : Type 0} {m : _} {w : _} {o : _} {e : _} {p : _} (hooks : Ghosts D C S) (IsFirst : S → Type 0) (splitting : Splitting) (passes : ℕ) (given list : Vec (Segment C I D m w o e p) Global)
+    → HasDataOf hooks IsFirst splitting passes given list → GivesData (hooks_of m.counted hooks) IsFirst splitting passes (segments_of given.items) (data_segments_of given.items) (data_segments_of list.items)
+data_from hooks IsFirst (by_passes settings) passes given list h = h
+data_from hooks IsFirst by_snapping passes given list h = h
+
+pub either : {A B C D : Type 0} → (A → C) → (B → D) → A ⊎ B → C ⊎ D
+either f g (inl a) = inl (f a)
+either f g (inr b) = inr (g b)
+
+-- so with these hooks
+pub data_of : (s t : Splitting) (passes : ℕ) (loaded tagged now : List (DataSegment Tag)) (xs : List WholeSegment) (IsFirst : ⊤ → Type 0) → s ≡ t → xs ≡ without_data tagged → loaded ≡ tagged
+    → GivesData keeping IsFirst s passes xs loaded now → IsDataOf t passes tagged now
+data_of s t passes loaded tagged now xs IsFirst es ex el given = subst (λ u. IsDataOf u passes tagged now) es (by s given)
+  where
+    by : (u : Splitting) → GivesData keeping IsFirst u passes xs loaded now → IsDataOf u passes tagged now
+    by (by_passes settings) (store, first, e) = e ∙ ap (λ l. (data_after_passes keeping settings l (tt {0}) passes).0) el
+    by by_snapping (store, first, e) = λ on cuts. e on (subst (λ ws. AreSnapCuts (join ws) on) (sym ex) cuts) ∙ ap (λ l. (data_snap keeping on l (tt {0})).0) el
 
 abbrev tagged_link : {I : Type 0} → (I → ℤ) → OverlayLink I Tag → TaggedLink
 tagged_link whole l = record { link = link_of whole l; tag = l.edge_data }
 
 -- what an engine keeps of data, from what the call below it returns
-pub keeps_data : {I : Type 0} {w : _} {o : _} {e : _} {p : _} (settings : SettingsRecord) (rule : OverlayRule) (given : List (DataSegment Tag)) (core : Core I w o e p) (whole : I → ℤ) (links : List (OverlayLink I Tag)) (s : Settings) (fill : FillRule) (loaded now : List (DataSegment Tag)) (xs : List WholeSegment)
-    → s ≡ engine_settings settings core → fill ≡ fill_rule_of settings.fill_rule → loaded ≡ given → xs ≡ without_data loaded → kept_links core ≡ map (link_of whole) links → core.link_data.items ≡ map (λ l. l.edge_data) links
-    → map (λ l. l.edge_data) links ≡ data_by (keeps_fill (holds rule)) fill now → now ≡ (data_after_passes keeping s loaded (tt {0}) (passes_of core.splitter)).0
+pub keeps_data : {I : Type 0} {w : _} {o : _} {e : _} {p : _} (settings : SettingsRecord) (rule : OverlayRule) (given : List (DataSegment Tag)) (core : Core I w o e p) (whole : I → ℤ) (links : List (OverlayLink I Tag)) (fill : FillRule) (loaded now : List (DataSegment Tag))
+    → fill ≡ fill_rule_of settings.fill_rule → loaded ≡ given → kept_links core ≡ map (link_of whole) links → core.link_data.items ≡ map (λ l. l.edge_data) links
+    → map (λ l. l.edge_data) links ≡ data_by (keeps_fill (holds rule)) fill now → (now ≡ []) ⊎ IsDataOf (core_splitting settings core) (passes_in core.splitter) given now
     → ((has : Tag → Bool) → IsTrue (list_all (λ s. has s.edge_data) loaded) → IsTrue (list_all (λ l. has l.edge_data) links))
-    → ((names : Tag → Pair → Bool) → NameNear names 0 loaded → LinksNameNear whole names (reach_of_run s xs (passes_of core.splitter)) links)
+    → ((names : Tag → Pair → Bool) → NameNear names 0 loaded → LinksNameNear whole names (reach_in core.splitter) links)
     → KeepsData settings rule given core
-keeps_data settings rule given core whole links s fill loaded now xs es ef ex eb el ed told after kept named = record {
+keeps_data settings rule given core whole links fill loaded now ef ex el ed told after kept named = record {
   links = map (tagged_link whole) links;
   same_links = map-map (λ (l : TaggedLink). l.link) (tagged_link whole) links ∙ sym el;
   same_data = map-map (λ (l : TaggedLink). l.tag) (tagged_link whole) links ∙ sym ed;
-  edge_data = ed ∙ told ∙ ap (data_by (keeps_fill (holds rule)) fill) after ∙ (λ i. data_by (keeps_fill (holds rule)) (ef i) (data_after_passes keeping (es i) (ex i) (tt {0}) (passes_of core.splitter)).0);
+  arrangement = now;
+  split_data = after;
+  edge_data = ed ∙ told ∙ ap (λ f. data_by (keeps_fill (holds rule)) f now) ef;
   kept_data = λ has all. ap (list_all has) ed ∙ list_all-map has (λ (l : OverlayLink _ Tag). l.edge_data) links ∙ kept has (subst (λ (xs : List (DataSegment Tag)). IsTrue (list_all (λ s. has s.edge_data) xs)) (sym ex) all);
-  named_data = λ names near. All-map (λ (l : TaggedLink). (s : Pair) → IsTrue (names l.tag s) → LiesNear (reach_of_run (engine_settings settings core) (without_data given) (passes_of core.splitter)) l.link.pair s) (tagged_link whole) links
-      (subst (λ (n : ℕ). LinksNameNear whole names n links) (λ i. reach_of_run (es i) ((eb ∙ ap (λ l. without_data l) ex) i) (passes_of core.splitter)) (named names (subst (λ (xs : List (DataSegment Tag)). NameNear names 0 xs) (sym ex) near)));
+  named_data = λ names near. All-map (λ (l : TaggedLink). (s : Pair) → IsTrue (names l.tag s) → LiesNear (reach_in core.splitter) l.link.pair s) (tagged_link whole) links
+      (named names (subst (λ (xs : List (DataSegment Tag)). NameNear names 0 xs) (sym ex) near));
 }
-
--- ---- the same list elsewhere
-
-pub moved_overlay : (s t : Settings) (f g : FillRule) (r : Bool → Bool → Bool) (xs ys segments now : List WholeSegment) (passes : ℕ) (graph : Graph) → s ≡ t → f ≡ g → xs ≡ ys → segments ≡ now
-    → IsOverlay s f r xs segments passes graph → IsOverlay t g r ys now passes graph
-moved_overlay s t f g r xs ys segments now passes graph es ef ex en o =
-    subst (λ (u : Settings). IsOverlay u g r ys now passes graph) es (subst (λ (u : FillRule). IsOverlay s u r ys now passes graph) ef
-    (subst (λ (u : List WholeSegment). IsOverlay s f r u now passes graph) ex (subst (λ (u : List WholeSegment). IsOverlay s f r xs u passes graph) en o)))
-
-pub moved_split : (s t : Settings) (xs ys segments now : List WholeSegment) (passes : ℕ) → s ≡ t → xs ≡ ys → segments ≡ now → IsSplit s xs segments passes → IsSplit t ys now passes
-moved_split s t xs ys segments now passes es ex en o =
-    subst (λ (u : Settings). IsSplit u ys now passes) es (subst (λ (u : List WholeSegment). IsSplit s u now passes) ex (subst (λ (u : List WholeSegment). IsSplit s xs u passes) en o))
-
-pub moved_refusal : (s t : Settings) (xs ys segments now : List WholeSegment) (before passes : ℕ) (fault : Fault) → s ≡ t → xs ≡ ys → segments ≡ now → IsRefused s xs segments before passes fault → IsRefused t ys now before passes fault
-moved_refusal s t xs ys segments now before passes fault es ex en o =
-    subst (λ (u : Settings). IsRefused u ys now before passes fault) es (subst (λ (u : List WholeSegment). IsRefused s u now before passes fault) ex
-    (subst (λ (u : List WholeSegment). IsRefused s xs u before passes fault) en o))
-
--- a refusal of the call below is passed on
-pub told_refusal : {A : Type 0} (r : Result A Refusal) (fault : Fault) (s : Settings) (xs segments : List WholeSegment) (before passes : ℕ) → IsErrAnd r (λ e. e ≡ Refused fault) → IsRefused s xs segments before passes fault
-    → IfErr r (λ e. e ≡ Refused CountOutOfRange → IsRefused s xs segments before passes CountOutOfRange)
-told_refusal (Ok x) fault s xs segments before passes h o = tt
-told_refusal (Err e) fault s xs segments before passes h o =
-    λ count. let same : fault ≡ CountOutOfRange = cc in subst (λ (f : Fault). IsRefused s xs segments before passes f) same o
-
--- where it was refused, nothing is left, or what the split leaves
-pub left_by_refusal : (s : Settings) (xs segments : List WholeSegment) (before passes : ℕ) (fault : Fault) → IsRefused s xs segments before passes fault → (segments ≡ []) ⊎ IsSplit s xs segments passes
-left_by_refusal s xs segments before passes fault (inl refused) = inl refused.0.emptied
-left_by_refusal s xs segments before passes fault (inr refused) = inr refused.split
-
-pub on_err : {A E : Type 0} {P : Type 0} (r : Result A E) → P → OnErr r P
-on_err (Ok x) h = tt
-on_err (Err e) h = h

@@ -1,16 +1,25 @@
 -- What an engine keeps of an overlay, from what the calls below it return.
-use Rattle.std.proofs.Common.{◌≡◌, refl, ◌∙◌, ◌≤◌, ◌==◌, ℕ, Bool, true, false, if◌then◌else◌, IsTrue, ap, subst, List, map, flat_map, length}
+use Rattle.std.proofs.Common.{◌≡◌, ◌⊎◌, inl, inr, refl, ◌∙◌, ◌≤◌, ◌==◌, ℕ, Bool, true, false, if◌then◌else◌, IsTrue, ap, subst, List, [], map, flat_map, length, Result, Ok, Err}
+use Rattle.std.specs.Prelude.{OnErr, IfErr}
+use Rattle.std.specs.Result.{IsErrAnd}
 use Rattle.overlay_base.specs.Radius.{exponent_cap}
 use Rattle.overlay_base.specs.Segments.{WholeSegment}
 use Rattle.overlay_base.specs.declared.overlay_core.fill_rule.FillRule.{FillRule}
 use Rattle.overlay_base.specs.declared.overlay_core.overlay_rule.OverlayRule.{OverlayRule}
 use Rattle.overlay_base.specs.declared.overlay_core.solver.Solver.{Solver}
 use Rattle.overlay_cuts.specs.ExactInput.{is_exact_input}
-use Rattle.overlay_cuts.specs.Run.{Settings, IsRun}
+use Rattle.overlay_cuts.specs.Run.{Settings}
 use Rattle.overlay_build.specs.Graph.{Graph}
 use Rattle.overlay_base.specs.Balance.{IsBalanced}
-use Rattle.i_overlay.specs.FarRegions.{EnclosesOverlay}
-use Rattle.i_overlay.specs.Headline.{IsSplit, IsOverlay}
+use Rattle.overlay_base.specs.declared.segm.fault.Fault.{Fault}
+use Rattle.overlay_base.specs.declared.segm.fault.Fault.TheVariants.{CountOutOfRange}
+use Rattle.i_overlay.specs.Courses.{Course}
+use Rattle.i_overlay.specs.FarRegions.{EnclosesOverlayBeyond}
+use Rattle.i_overlay.specs.Headline.{IsSplitBy, IsOverlayBy, IsRefusedBy}
+use Rattle.i_overlay.specs.SplitLists.{TellsChangeBy}
+use Rattle.i_overlay.specs.SplitterOf.{splitting_by}
+use Rattle.overlay_c.specs.declared.refusal.Refusal.{Refusal}
+use Rattle.overlay_c.specs.declared.refusal.Refusal.TheVariants.{Refused}
 use Rattle.overlay_geometry.specs.Points.{Point}
 use Rattle.overlay_contours.specs.ArrangementsOf.{IsArrangementOf}
 use Rattle.overlay_contours.specs.declared.arrangement.Arrangement.{Arrangement}
@@ -33,25 +42,59 @@ set_to bits start progression limit = record { start = start; progression = prog
 pub same_settings : (bits s t p q l m : ℕ) → s ≡ t → p ≡ q → l ≡ m → set_to bits s p l ≡ set_to bits t q m
 same_settings bits s t p q l m es ep el = λ i. set_to bits (es i) (ep i) (el i)
 
-pub same_overlay : (s t : Settings) (f g : FillRule) (r : Bool → Bool → Bool) (xs ys segments : List WholeSegment) (passes : ℕ) (graph : Graph) → s ≡ t → f ≡ g → xs ≡ ys
-    → IsOverlay s f r xs segments passes graph → IsOverlay t g r ys segments passes graph
-same_overlay s t f g r xs ys segments passes graph es ef ex o =
-    subst (λ u. IsOverlay u g r ys segments passes graph) es (subst (λ u. IsOverlay s u r ys segments passes graph) ef (subst (λ u. IsOverlay s f r u segments passes graph) ex o))
+-- a course by a splitting, and what it reports
+abbrev pub course_with : Splitting → ℕ → ℕ → Course
+course_with splitting passes halves = record { splitting = splitting; passes = passes; halves = halves }
 
-pub same_region : (s t : Settings) (r : OverlayRule) (f g : FillRule) (xs ys : List WholeSegment) (passes : ℕ) (graph : Graph) → s ≡ t → f ≡ g → xs ≡ ys
-    → (IsBalanced xs → EnclosesOverlay s r f xs passes graph) → IsBalanced ys → EnclosesOverlay t r g ys passes graph
-same_region s t r f g xs ys passes graph es ef ex o =
-    subst (λ u. IsBalanced ys → EnclosesOverlay u r g ys passes graph) es (subst (λ u. IsBalanced ys → EnclosesOverlay s r u ys passes graph) ef (subst (λ u. IsBalanced u → EnclosesOverlay s r f u passes graph) ex o))
+pub same_splitting_by : (r q : Rounding) (s t : Settings) → r ≡ q → s ≡ t → splitting_by r s ≡ splitting_by q t
+same_splitting_by r q s t er es = λ i. splitting_by (er i) (es i)
+
+-- What holds of an overlay, a split or a refusal holds of it by all that is the same.
+module _ (s t : Splitting) (passes halves : ℕ) (es : s ≡ t) where
+  pub same_overlay : (f g : FillRule) (r : Bool → Bool → Bool) (xs ys segments now : List WholeSegment) (graph : Graph) → f ≡ g → xs ≡ ys → segments ≡ now
+      → IsOverlayBy (course_with s passes halves) f r xs segments graph → IsOverlayBy (course_with t passes halves) g r ys now graph
+  same_overlay f g r xs ys segments now graph ef ex en o =
+      subst (λ u. IsOverlayBy (course_with u passes halves) g r ys now graph) es (subst (λ u. IsOverlayBy (course_with s passes halves) u r ys now graph) ef
+      (subst (λ u. IsOverlayBy (course_with s passes halves) f r u now graph) ex (subst (λ u. IsOverlayBy (course_with s passes halves) f r xs u graph) en o)))
+
+  pub same_split : (xs ys segments now : List WholeSegment) → xs ≡ ys → segments ≡ now → IsSplitBy (course_with s passes halves) xs segments → IsSplitBy (course_with t passes halves) ys now
+  same_split xs ys segments now ex en o =
+      subst (λ u. IsSplitBy (course_with u passes halves) ys now) es (subst (λ u. IsSplitBy (course_with s passes halves) u now) ex
+      (subst (λ u. IsSplitBy (course_with s passes halves) xs u) en o))
+
+  pub same_change : (xs ys : List WholeSegment) (flag : Bool) → xs ≡ ys → TellsChangeBy s xs passes flag → TellsChangeBy t ys passes flag
+  same_change xs ys flag ex o = subst (λ u. TellsChangeBy u ys passes flag) es (subst (λ u. TellsChangeBy s u passes flag) ex o)
+
+  pub same_refusal : (before earlier : ℕ) (xs ys segments now : List WholeSegment) (fault : Fault) → before ≡ earlier → xs ≡ ys → segments ≡ now
+      → IsRefusedBy (course_with s passes halves) before xs segments fault → IsRefusedBy (course_with t passes halves) earlier ys now fault
+  same_refusal before earlier xs ys segments now fault eb ex en o =
+      subst (λ u. IsRefusedBy (course_with u passes halves) earlier ys now fault) es (subst (λ u. IsRefusedBy (course_with s passes halves) u ys now fault) eb
+      (subst (λ u. IsRefusedBy (course_with s passes halves) before u now fault) ex (subst (λ u. IsRefusedBy (course_with s passes halves) before xs u fault) en o)))
+
+pub same_region : (halves : ℕ) (r : OverlayRule) (f g : FillRule) (xs ys : List WholeSegment) (graph : Graph) → f ≡ g → xs ≡ ys
+    → (IsBalanced xs → EnclosesOverlayBeyond halves r f xs graph) → IsBalanced ys → EnclosesOverlayBeyond halves r g ys graph
+same_region halves r f g xs ys graph ef ex o =
+    subst (λ u. IsBalanced ys → EnclosesOverlayBeyond halves r u ys graph) ef (subst (λ u. IsBalanced u → EnclosesOverlayBeyond halves r f u graph) ex o)
+
+-- a refusal of the call below is passed on
+pub told_refusal : {A : Type 0} (r : Result A Refusal) (fault : Fault) (course : Course) (before : ℕ) (xs segments : List WholeSegment) → IsErrAnd r (λ e. e ≡ Refused fault) → IsRefusedBy course before xs segments fault
+    → IfErr r (λ e. e ≡ Refused CountOutOfRange → IsRefusedBy course before xs segments CountOutOfRange)
+told_refusal (Ok x) fault course before xs segments h o = tt
+told_refusal (Err e) fault course before xs segments h o =
+    λ count. let same : fault ≡ CountOutOfRange = cc in subst (λ (f : Fault). IsRefusedBy course before xs segments f) same o
+
+-- where it was refused, nothing is left, or what the split leaves
+pub left_by_refusal : (course : Course) (before : ℕ) (xs segments : List WholeSegment) (fault : Fault) → IsRefusedBy course before xs segments fault → (segments ≡ []) ⊎ IsSplitBy course xs segments
+left_by_refusal course before xs segments fault (inl refused) = inl refused.0.emptied
+left_by_refusal course before xs segments fault (inr refused) = inr refused.split
+
+pub on_err : {A E : Type 0} {P : Type 0} (r : Result A E) → P → OnErr r P
+on_err (Ok x) h = tt
+on_err (Err e) h = h
 
 -- lists that are laid, by a list that is the same
 pub same_laid : {A : Type 0} (xs ys : List (List A)) (lengths : List ℕ) (all : List A) → xs ≡ ys → lengths ≡ map length xs → all ≡ flat_map (λ list. list) xs → AreLaid ys lengths all
 same_laid xs ys lengths all e el ea = (el ∙ ap (λ ls. map length ls) e, ea ∙ ap (λ ls. flat_map (λ list. list) ls) e)
-
-pub same_split : (s t : Settings) (xs ys segments : List WholeSegment) (passes : ℕ) → s ≡ t → xs ≡ ys → IsSplit s xs segments passes → IsSplit t ys segments passes
-same_split s t xs ys segments passes es ex o = subst (λ u. IsSplit u ys segments passes) es (subst (λ u. IsSplit s u segments passes) ex o)
-
-pub same_run : (s t : Settings) (xs ys segments : List WholeSegment) (passes : ℕ) (flag : Bool) → s ≡ t → xs ≡ ys → IsRun s xs segments passes flag → IsRun t ys segments passes flag
-same_run s t xs ys segments passes flag es ex o = subst (λ u. IsRun u ys segments passes flag) es (subst (λ u. IsRun s u segments passes flag) ex o)
 
 -- the splitting of the rounding of a code
 pub same_splitting : (settings : SettingsRecord) (solver : Solver) (rounding : Rounding) → rounding ≡ rounding_of settings.rounding → solver.precision.start ≡ settings.start → solver.precision.progression ≡ settings.progression → splitting_for rounding 32 solver ≡ polygon_splitting settings

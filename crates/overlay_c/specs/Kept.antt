@@ -1,7 +1,7 @@
 -- What an engine keeps of its last result.
 use Rattle.std.specs.Prelude.{⊤, ◌≡◌, ◌⊎◌, ℕ, ℤ, ◌<◌, ◌^◌, ◌&&◌, Bool, true, false, List, [], IsTrue, IsFalse, All, map, length}
 use Rattle.std.specs.List.{list_all}
-use Rattle.overlay_geometry.specs.Points.{Pair}
+use Rattle.overlay_geometry.specs.Points.{Point, Pair}
 use Rattle.overlay_base.specs.EdgeData.{DataSegment, without_data}
 use Rattle.overlay_base.specs.Planar.{is_splittable}
 use Rattle.overlay_base.specs.Rules.{holds, keeps_fill}
@@ -11,19 +11,24 @@ use Rattle.overlay_base.specs.SegmentOf.{segments_of}
 use Rattle.overlay_base.specs.declared.overlay_core.clip_rule.ClipRule.{ClipRule}
 use Rattle.overlay_base.specs.declared.overlay_core.overlay_rule.OverlayRule.{OverlayRule}
 use Rattle.overlay_base.specs.declared.segm.fault.Fault.TheVariants.{Memory, CountOutOfRange}
+use Rattle.overlay_base.specs.Join.{join}
+use Rattle.overlay_contours.specs.Splittings.{Splitting, by_passes, by_snapping}
+use Rattle.overlay_snapping.specs.Chains.{AreSnapCuts}
+use Rattle.overlay_snapping.specs.SnapOf.{data_snap}
 use Rattle.overlay_cuts.specs.DataPass.{data_after_passes}
 use Rattle.overlay_cuts.specs.Laws.{NameNear}
-use Rattle.overlay_cuts.specs.Nearness.{LiesNear, reach_of_run}
-use Rattle.overlay_cuts.specs.Run.{Settings, IsRun}
-use Rattle.overlay_split.specs.SettingsOf.{passes_of, snap_limit_of}
+use Rattle.overlay_cuts.specs.Nearness.{LiesNear}
 use Rattle.overlay_sweep.specs.ChainWindings.{tops_leave_range}
 use Rattle.overlay_build.specs.Graph.{Link, Graph, graph_by, data_by, has_even_nodes}
 use Rattle.overlay_build.specs.GraphOf.{link_of}
 use Rattle.overlay_build.specs.Laid.{AreLaid}
 use Rattle.overlay_build.specs.Walks.{AreClosedWalks}
-use Rattle.i_overlay.specs.FarRegions.{EnclosesOverlay}
-use Rattle.i_overlay.specs.Headline.{IsSplit, IsOverlay, IsClip, IsRefused}
-use Rattle.overlay_c.specs.Records.{asks, asked_by, line_asks, line_asked_by, link_by, settings_by, fill_rule_of}
+use Rattle.i_overlay.specs.Courses.{Course}
+use Rattle.i_overlay.specs.FarRegions.{EnclosesOverlayBeyond}
+use Rattle.i_overlay.specs.Headline.{IsSplitBy, IsOverlayBy, IsClipBy, IsRefusedBy}
+use Rattle.i_overlay.specs.SplitLists.{TellsChangeBy}
+use Rattle.i_overlay.specs.SplitterOf.{splitting_by, snap_limit_in, passes_in, reach_in}
+use Rattle.overlay_c.specs.Records.{asks, asked_by, line_asks, line_asked_by, link_by, settings_by, fill_rule_of, rounding_of}
 use Rattle.overlay_c.specs.Tags.{keeping}
 use Rattle.overlay_c.specs.declared.records.LineRecord.{LineRecord}
 use Rattle.overlay_c.specs.declared.records.LinkRecord.{LinkRecord}
@@ -73,14 +78,18 @@ pub record KeepsWalks {I : Type 0} {w : _} {o : _} {e : _} {p : _} (asked : Bool
   pub walks : IsTrue core.has_walks → ((walks : List (List ℕ)) × AreClosedWalks graph.links walks × AreLaid walks core.walk_lengths.items core.walk_links.items)
   pub no_walks : IsFalse core.has_walks → HasNoWalks core
 
--- what a run of the engine is set to
-abbrev pub engine_settings : {I : Type 0} {w : _} {o : _} {e : _} {p : _} → SettingsRecord → Core I w o e p → Settings
-engine_settings {w = w} settings core = settings_by w.BITS settings (snap_limit_of core.splitter)
+-- how a core splits a list: by the rounding that the settings name, and where that is by passes, as they and its limit set these
+abbrev pub core_splitting : {I : Type 0} {w : _} {o : _} {e : _} {p : _} → SettingsRecord → Core I w o e p → Splitting
+core_splitting {w = w} settings core = splitting_by (rounding_of settings.rounding) (settings_by w.BITS settings (snap_limit_in core.splitter))
+
+-- how it has split one, by what its splitter reports
+abbrev pub core_course : {I : Type 0} {w : _} {o : _} {e : _} {p : _} → SettingsRecord → Core I w o e p → Course
+core_course settings core = record { splitting = core_splitting settings core; passes = passes_in core.splitter; halves = reach_in core.splitter }
 
 -- it keeps the arrangement of what was given, and whether that is anything else
 pub record KeepsSplit {I : Type 0} {w : _} {o : _} {e : _} {p : _} (settings : SettingsRecord) (given : List WholeSegment) (core : Core I w o e p) : Type 0 where
-  pub split : IsSplit (engine_settings settings core) given (segments_of core.segments.items) (passes_of core.splitter)
-  pub run : IsRun (engine_settings settings core) given (segments_of core.segments.items) (passes_of core.splitter) core.has_changed
+  pub split : IsSplitBy (core_course settings core) given (segments_of core.segments.items)
+  pub change : TellsChangeBy (core_splitting settings core) given (passes_in core.splitter) core.has_changed
 
 -- the graph of all of its arrangement: the links are those of records, one for each segment, and it keeps the nodes
 pub record BuildsAll {I : Type 0} {w : _} {o : _} {e : _} {p : _} (settings : SettingsRecord) (links : List LinkRecord) (core : Core I w o e p) : Type 0 where
@@ -92,14 +101,14 @@ pub record BuildsAll {I : Type 0} {w : _} {o : _} {e : _} {p : _} (settings : Se
 -- it keeps the arrangement of polygons and lines, and the graph of what a clip rule keeps of them
 pub record KeepsClip {I : Type 0} {w : _} {o : _} {e : _} {p : _} (settings : SettingsRecord) (rule : ClipRule) (given : List WholeSegment) (core : Core I w o e p) : Type 0 where
   pub graph : Graph
-  pub clip : IsClip (engine_settings settings core) (fill_rule_of settings.fill_rule) rule given (segments_of core.lines.items) (passes_of core.splitter) graph
+  pub clip : IsClipBy (core_course settings core) (fill_rule_of settings.fill_rule) rule given (segments_of core.lines.items) graph
   pub kept : KeepsGraph core graph
 
 -- it keeps the arrangement of what was given, and the graph of an overlay
 pub record KeepsOverlay {I : Type 0} {w : _} {o : _} {e : _} {p : _} (settings : SettingsRecord) (rule : OverlayRule) (walks : Bool) (given : List WholeSegment) (core : Core I w o e p) : Type 0 where
   pub graph : Graph
-  pub overlay : IsOverlay (engine_settings settings core) (fill_rule_of settings.fill_rule) (holds rule) given (segments_of core.segments.items) (passes_of core.splitter) graph
-  pub region : IsBalanced given → EnclosesOverlay (engine_settings settings core) rule (fill_rule_of settings.fill_rule) given (passes_of core.splitter) graph
+  pub overlay : IsOverlayBy (core_course settings core) (fill_rule_of settings.fill_rule) (holds rule) given (segments_of core.segments.items) graph
+  pub region : IsBalanced given → EnclosesOverlayBeyond (reach_in core.splitter) rule (fill_rule_of settings.fill_rule) given graph
   pub kept : KeepsGraph core graph
   pub kept_walks : KeepsWalks walks core graph
 
@@ -108,19 +117,27 @@ pub record TaggedLink : Type 0 where
   pub link : Link
   pub tag : Tag
 
+-- The data of an arrangement is what passes, or the chains of snap rounding, make of the given data.
+abbrev pub IsDataOf : Splitting → ℕ → List (DataSegment Tag) → List (DataSegment Tag) → Type 0
+IsDataOf (by_passes settings) passes given arrangement = arrangement ≡ (data_after_passes keeping settings given (tt {0}) passes).0
+IsDataOf by_snapping passes given arrangement =
+    (on : Pair → List Point) → AreSnapCuts (join (without_data given)) on → arrangement ≡ (data_snap keeping on given (tt {0})).0
+
 -- it keeps the data of each link of an overlay
 pub record KeepsData {I : Type 0} {w : _} {o : _} {e : _} {p : _} (settings : SettingsRecord) (rule : OverlayRule) (given : List (DataSegment Tag)) (core : Core I w o e p) : Type 0 where
   -- these are the links, each with its data
   pub links : List TaggedLink
   pub same_links : map (λ l. l.link) links ≡ kept_links core
   pub same_data : map (λ l. l.tag) links ≡ core.link_data.items
-  -- it is what the passes make of the given data, of those segments that the rule keeps
-  pub edge_data : core.link_data.items ≡ data_by (keeps_fill (holds rule)) (fill_rule_of settings.fill_rule) (data_after_passes keeping (engine_settings settings core) given (tt {0}) (passes_of core.splitter)).0
+  -- it is what the split makes of the given data, if it leaves any, of those segments that the rule keeps
+  pub arrangement : List (DataSegment Tag)
+  pub split_data : (arrangement ≡ []) ⊎ IsDataOf (core_splitting settings core) (passes_in core.splitter) given arrangement
+  pub edge_data : core.link_data.items ≡ data_by (keeps_fill (holds rule)) (fill_rule_of settings.fill_rule) arrangement
   -- what holds of all given data holds of it, so each link has that of a given segment
   pub kept_data : (has : Tag → Bool) → IsTrue (list_all (λ s. has s.edge_data) given) → IsTrue (list_all has core.link_data.items)
-  -- where data names given segments, each link lies as near to all that its data names as the passes reach
+  -- where data names given segments, each link lies as near to all that its data names as the split moves things
   pub named_data : (names : Tag → Pair → Bool) → NameNear names 0 given
-      → All (λ l. (s : Pair) → IsTrue (names l.tag s) → LiesNear (reach_of_run (engine_settings settings core) (without_data given) (passes_of core.splitter)) l.link.pair s) links
+      → All (λ l. (s : Pair) → IsTrue (names l.tag s) → LiesNear (reach_in core.splitter) l.link.pair s) links
 
 -- how much it keeps
 pub record TellsSizes {I : Type 0} {w : _} {o : _} {e : _} {p : _} (core : Core I w o e p) (sizes : SizesRecord) : Type 0 where
@@ -134,17 +151,15 @@ pub record TellsSizes {I : Type 0} {w : _} {o : _} {e : _} {p : _} (core : Core 
   pub walk_links : sizes.walk_links ≡ length core.walk_links.items
   pub has_walks : sizes.has_walks ≡ core.has_walks
   pub has_changed : sizes.has_changed ≡ core.has_changed
-  pub passes : passes_of core.splitter < 2 ^ 64 → sizes.passes ≡ passes_of core.splitter
+  pub passes : passes_in core.splitter < 2 ^ 64 → sizes.passes ≡ passes_in core.splitter
 
 -- a count that was refused, in the split or in the build
 abbrev pub IsCountRefused : {I : Type 0} {w : _} {o : _} {e : _} {p : _} → SettingsRecord → List WholeSegment → Core I w o e p → Core I w o e p → Type 0
-IsCountRefused settings given before after =
-    IsRefused (engine_settings settings before) given (segments_of after.segments.items) (passes_of before.splitter) (passes_of after.splitter) CountOutOfRange
+IsCountRefused settings given before after = IsRefusedBy (core_course settings after) (passes_in before.splitter) given (segments_of after.segments.items) CountOutOfRange
 
 -- the same of polygons and lines
 abbrev pub IsCountOfLinesRefused : {I : Type 0} {w : _} {o : _} {e : _} {p : _} → SettingsRecord → List WholeSegment → Core I w o e p → Core I w o e p → Type 0
-IsCountOfLinesRefused settings given before after =
-    IsRefused (engine_settings settings before) given (segments_of after.lines.items) (passes_of before.splitter) (passes_of after.splitter) CountOutOfRange
+IsCountOfLinesRefused settings given before after = IsRefusedBy (core_course settings after) (passes_in before.splitter) given (segments_of after.lines.items) CountOutOfRange
 
 -- why the graph of all of an arrangement was refused: a growth was, or a winding above a segment leaves the range
 abbrev pub IsBuildRefusal : List WholeSegment → Refusal → Type 0
@@ -162,8 +177,8 @@ IsSplitRefusal OutOfRange = ⊥
 -- what is left after a refusal: nothing, or what the split leaves
 abbrev pub StandsAfter : {I : Type 0} {w : _} {o : _} {e : _} {p : _} → SettingsRecord → List WholeSegment → Core I w o e p → Type 0
 StandsAfter settings given core =
-    (segments_of core.segments.items ≡ []) ⊎ IsSplit (engine_settings settings core) given (segments_of core.segments.items) (passes_of core.splitter)
+    (segments_of core.segments.items ≡ []) ⊎ IsSplitBy (core_course settings core) given (segments_of core.segments.items)
 
 abbrev pub LinesStandAfter : {I : Type 0} {w : _} {o : _} {e : _} {p : _} → SettingsRecord → List WholeSegment → Core I w o e p → Type 0
 LinesStandAfter settings given core =
-    (segments_of core.lines.items ≡ []) ⊎ IsSplit (engine_settings settings core) given (segments_of core.lines.items) (passes_of core.splitter)
+    (segments_of core.lines.items ≡ []) ⊎ IsSplitBy (core_course settings core) given (segments_of core.lines.items)

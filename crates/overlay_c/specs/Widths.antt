@@ -7,11 +7,11 @@ use Rattle.overlay_base.specs.Segments.{WholeSegment}
 use Rattle.overlay_base.specs.SegmentOf.{segments_of}
 use Rattle.overlay_base.specs.declared.overlay_core.clip_rule.ClipRule.{ClipRule}
 use Rattle.overlay_base.specs.declared.overlay_core.overlay_rule.OverlayRule.{OverlayRule}
-use Rattle.overlay_cuts.specs.Run.{LeavesRange}
-use Rattle.overlay_split.specs.SettingsOf.{snap_limit_of}
+use Rattle.overlay_contours.specs.Splittings.{SumsLeaveRange}
+use Rattle.i_overlay.specs.SplitterOf.{snap_limit_in}
 use Rattle.overlay_sweep.specs.ChainWindings.{tops_leave_range}
 use Rattle.overlay_build.specs.Graph.{Link}
-use Rattle.overlay_c.specs.Kept.{engine_settings, kept_links, TellsSizes, KeepsSplit, BuildsAll, KeepsOverlay, KeepsData, KeepsClip, HasNoWalks, HasNoGraph, StandsAfter, LinesStandAfter, IsCountRefused, IsCountOfLinesRefused}
+use Rattle.overlay_c.specs.Kept.{core_splitting, kept_links, TellsSizes, KeepsSplit, BuildsAll, KeepsOverlay, KeepsData, KeepsClip, HasNoWalks, HasNoGraph, StandsAfter, LinesStandAfter, IsCountRefused, IsCountOfLinesRefused}
 use Rattle.overlay_c.specs.declared.records.LinkRecord.{LinkRecord}
 use Rattle.overlay_c.specs.declared.records.SettingsRecord.{SettingsRecord}
 use Rattle.overlay_c.specs.declared.records.SizesRecord.{SizesRecord}
@@ -61,11 +61,11 @@ abbrev pub LastIsCountOfLinesRefused : SettingsRecord → List WholeSegment → 
 LastIsCountOfLinesRefused settings given before after = Pick after.is_narrow (IsCountOfLinesRefused settings given before.narrow after.narrow) (IsCountOfLinesRefused settings given before.wide after.wide)
 
 abbrev pub LastLeavesRange : SettingsRecord → List WholeSegment → Engine → Engine → Type 0
-LastLeavesRange settings given before after = Pick after.is_narrow (LeavesRange (engine_settings settings before.narrow) given) (LeavesRange (engine_settings settings before.wide) given)
+LastLeavesRange settings given before after = Pick after.is_narrow (SumsLeaveRange (core_splitting settings before.narrow) given) (SumsLeaveRange (core_splitting settings before.wide) given)
 
 -- the limits of both splitters stay
 abbrev pub SameLimits : Engine → Engine → Type 0
-SameLimits before after = (snap_limit_of after.narrow.splitter ≡ snap_limit_of before.narrow.splitter) × (snap_limit_of after.wide.splitter ≡ snap_limit_of before.wide.splitter)
+SameLimits before after = (snap_limit_in after.narrow.splitter ≡ snap_limit_in before.narrow.splitter) × (snap_limit_in after.wide.splitter ≡ snap_limit_in before.wide.splitter)
 
 -- the core that the call does not take stays
 abbrev pub SameOther : Engine → Engine → Type 0

@@ -15,13 +15,14 @@ ghost use Rattle.overlay_c.specs.declared.refusal.Refusal.TheVariants.{Refused, 
 use crate::lines::{self, Line};
 use crate::records::{
     BooleanSegment, LineRecord, LinkRecord, SegmentRecord, SettingsRecord, SizesRecord, asked,
-    fill_rule, solver, write_filled,
+    fill_rule, rounding, solver, write_filled,
 };
 use crate::refusal::Refusal;
 use crate::tags::{self, Tag, TaggedRecord, TaggedSegment, keep_tags, keep_untagged};
 use crate::width::Width;
-use i_overlay::clip::split_and_build_clip;
-use i_overlay::overlay::split_and_build_overlay;
+use i_overlay::clip::split_and_build_clip_by;
+use i_overlay::overlay::split_and_build_overlay_by;
+use i_overlay::splitter::Splitter;
 use overlay_base::overlay_core::clip_rule::ClipRule;
 use overlay_base::overlay_core::link::OverlayLink;
 use overlay_base::overlay_core::overlay_rule::OverlayRule;
@@ -33,13 +34,13 @@ use overlay_build::build::builder::GraphBuilder;
 use overlay_build::build::connect_links::connect_links;
 use overlay_build::build::graph_node::OverlayNode;
 use overlay_build::build::walks::closed_walks;
-use overlay_split::split::solver::SplitSolver;
+use overlay_contours::rounding::Rounding;
 use std::alloc::{AllocError, Global};
 
 /// What is kept from one call to the next.
 #[derive(Drop)]
 pub struct Core<I: Width> {
-    pub splitter: SplitSolver<I>,
+    pub splitter: Splitter<I>,
     pub builder: GraphBuilder<ShapeCountBoolean, OverlayNode, I, ()>,
     pub line_builder: GraphBuilder<ShapeCountString, Vec<usize>, I, ()>,
     pub tag_builder: GraphBuilder<ShapeCountBoolean, OverlayNode, I, Tag>,
@@ -72,17 +73,17 @@ pub struct Core<I: Width> {
 impl<I: Width> Core<I> {
     ghost use Rattle.overlay_base.specs.ArrangedOf.{IsArranged};
     ghost use Rattle.overlay_base.specs.Join.{join, join_leaves_range, has_equal_pairs};
-    ghost use Rattle.overlay_cuts.specs.Run.{LeavesRange};
-    ghost use Rattle.overlay_split.specs.SettingsOf.{snap_limit_of};
+    ghost use Rattle.overlay_contours.specs.Splittings.{SumsLeaveRange};
+    ghost use Rattle.i_overlay.specs.SplitterOf.{snap_limit_in};
     ghost use Rattle.overlay_c.specs.Tags.{untagged, tagged_by};
-    ghost use Rattle.overlay_c.specs.Kept.{engine_settings, TellsSizes, KeepsData, KeepsSplit, BuildsAll, KeepsOverlay, KeepsClip, HasNoWalks, HasNoGraph, IsCountRefused, IsBuildRefusal, IsCountOfLinesRefused, StandsAfter, LinesStandAfter};
+    ghost use Rattle.overlay_c.specs.Kept.{core_splitting, TellsSizes, KeepsData, KeepsSplit, BuildsAll, KeepsOverlay, KeepsClip, HasNoWalks, HasNoGraph, IsCountRefused, IsBuildRefusal, IsCountOfLinesRefused, StandsAfter, LinesStandAfter};
 
     /// A core, which takes no memory yet.
     pub fn new(alloc: Global, snap_limit: u32) -> Core<I>
-        ensures limit { snap_limit_of result.splitter ≡ snap_limit }
+        ensures limit { snap_limit_in result.splitter ≡ snap_limit }
     {
         Core {
-            splitter: SplitSolver::with_snap_limit(alloc, snap_limit),
+            splitter: Splitter::with_snap_limit(alloc, Rounding::HotPixels, snap_limit),
             builder: GraphBuilder::new(alloc),
             line_builder: GraphBuilder::new(alloc),
             tag_builder: GraphBuilder::new(alloc),
@@ -121,7 +122,7 @@ impl<I: Width> Core<I> {
         ensures refused { IfErr result IsSplitRefusal }
         ensures too_large { OnTooLarge result (IsCountRefused settings.now (given_by given.now) self.old self.new) }
         ensures stands { OnErr result (StandsAfter settings.now (given_by given.now) self.new) }
-        ensures limit { snap_limit_of self.new.splitter ≡ snap_limit_of self.old.splitter }
+        ensures limit { snap_limit_in self.new.splitter ≡ snap_limit_in self.old.splitter }
         ensures lines { self.new.lines ≡ self.old.lines }
         ensures link_data { self.new.link_data ≡ self.old.link_data }
         ensures has_changed { self.new.has_changed ≡ self.old.has_changed }
@@ -134,9 +135,12 @@ impl<I: Width> Core<I> {
         load_splittable(given, &mut self.segments)?;
         let solver = solver(settings);
         let fill_rule = fill_rule(settings.fill_rule);
+        self.splitter.set_rounding(rounding(settings.rounding));
         let (splitter, builder) = (&mut self.splitter, &mut self.builder);
         let segments = &mut self.segments;
-        let graph = split_and_build_overlay(splitter, builder, segments, &solver, fill_rule, rule)?;
+        let graph = split_and_build_overlay_by(
+            splitter, builder, segments, &solver, fill_rule, rule,
+        )?;
         keep_links(graph.links(), &mut self.links)?;
         keep_nodes(
             graph.nodes(),
@@ -152,7 +156,7 @@ impl<I: Width> Core<I> {
         Ok(())
     }
 
-    /// Does the same without walks, and keeps the data of each link: what the passes make of the data of the records.
+    /// Does the same without walks, and keeps the data of each link: what the split makes of the data of the records.
     pub fn overlay_with_data(
         &mut self,
         given: &[TaggedRecord],
@@ -167,7 +171,7 @@ impl<I: Width> Core<I> {
         ensures refused { IfErr result IsSplitRefusal }
         ensures too_large { OnTooLarge result (IsCountRefused settings.now (given_by (untagged given.now)) self.old self.new) }
         ensures stands { OnErr result (StandsAfter settings.now (given_by (untagged given.now)) self.new) }
-        ensures limit { snap_limit_of self.new.splitter ≡ snap_limit_of self.old.splitter }
+        ensures limit { snap_limit_in self.new.splitter ≡ snap_limit_in self.old.splitter }
         ensures lines { self.new.lines ≡ self.old.lines }
         ensures has_changed { self.new.has_changed ≡ self.old.has_changed }
     {
@@ -180,9 +184,10 @@ impl<I: Width> Core<I> {
         tags::load_splittable(given, &mut self.tagged)?;
         let solver = solver(settings);
         let fill_rule = fill_rule(settings.fill_rule);
+        self.splitter.set_rounding(rounding(settings.rounding));
         let (splitter, builder) = (&mut self.splitter, &mut self.tag_builder);
         let tagged = &mut self.tagged;
-        let built = split_and_build_overlay(splitter, builder, tagged, &solver, fill_rule, rule);
+        let built = split_and_build_overlay_by(splitter, builder, tagged, &solver, fill_rule, rule);
         keep_untagged(&self.tagged, &mut self.segments)?;
         let graph = built?;
         keep_links(graph.links(), &mut self.links)?;
@@ -207,9 +212,9 @@ impl<I: Width> Core<I> {
         ensures usable { OnOk result (IsTrue (are_usable (I.whole I.MIN_COORD) (I.whole I.MAX_COORD) given.now)) }
         ensures unusable { OnUnusable result (IsFalse (are_usable (I.whole I.MIN_COORD) (I.whole I.MAX_COORD) given.now)) }
         ensures refused { IfErr result IsSplitRefusal }
-        ensures too_large { OnTooLarge result (LeavesRange (engine_settings settings.now self.old) (given_by given.now)) }
+        ensures too_large { OnTooLarge result (SumsLeaveRange (core_splitting settings.now self.old) (given_by given.now)) }
         ensures emptied { OnErr result (self.new.segments.items ≡ []) }
-        ensures limit { snap_limit_of self.new.splitter ≡ snap_limit_of self.old.splitter }
+        ensures limit { snap_limit_in self.new.splitter ≡ snap_limit_in self.old.splitter }
         ensures no_graph { HasNoGraph self.new }
         ensures lines { self.new.lines ≡ self.old.lines }
         ensures link_data { self.new.link_data ≡ self.old.link_data }
@@ -224,6 +229,7 @@ impl<I: Width> Core<I> {
         self.indexes.clear();
         load_splittable(given, &mut self.segments)?;
         let solver = solver(settings);
+        self.splitter.set_rounding(rounding(settings.rounding));
         self.has_changed = self.splitter.split_segments(&mut self.segments, &solver)?;
         Ok(())
     }
@@ -306,7 +312,7 @@ impl<I: Width> Core<I> {
         ensures refused { IfErr result IsSplitRefusal }
         ensures too_large { OnTooLarge result (IsCountOfLinesRefused settings.now (map line_asked_by given.now) self.old self.new) }
         ensures stands { OnErr result (LinesStandAfter settings.now (map line_asked_by given.now) self.new) }
-        ensures limit { snap_limit_of self.new.splitter ≡ snap_limit_of self.old.splitter }
+        ensures limit { snap_limit_in self.new.splitter ≡ snap_limit_in self.old.splitter }
         ensures no_walks { HasNoWalks self.new }
         ensures segments { self.new.segments ≡ self.old.segments }
         ensures link_data { self.new.link_data ≡ self.old.link_data }
@@ -320,8 +326,9 @@ impl<I: Width> Core<I> {
         load_splittable_lines(given, &mut self.lines)?;
         let solver = solver(settings);
         let fill_rule = fill_rule(settings.fill_rule);
+        self.splitter.set_rounding(rounding(settings.rounding));
         let (splitter, builder) = (&mut self.splitter, &mut self.line_builder);
-        let graph = split_and_build_clip(
+        let graph = split_and_build_clip_by(
             splitter,
             builder,
             &mut self.lines,

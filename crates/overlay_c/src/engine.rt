@@ -49,7 +49,7 @@ pub struct Engine {
 }
 
 impl Engine {
-    ghost use Rattle.overlay_split.specs.SettingsOf.{snap_limit_of};
+    ghost use Rattle.i_overlay.specs.SplitterOf.{snap_limit_in};
     ghost use Rattle.overlay_base.specs.Join.{join, join_leaves_range, has_equal_pairs};
     ghost use Rattle.overlay_c.specs.Kept.{given_by, IsBuildRefusal, IsSplitRefusal, are_usable, are_lines_usable};
     ghost use Rattle.overlay_c.specs.Records.{line_asked_by, told_by, line_told_by, link_by, names_narrow, number_by};
@@ -67,8 +67,8 @@ impl Engine {
 
     /// An engine, which takes no memory yet.
     pub fn new(alloc: Global, snap_limit: u32) -> Engine
-        ensures limit { snap_limit_of result.wide.splitter ≡ snap_limit }
-        ensures narrow_limit { snap_limit_of result.narrow.splitter ≡ snap_limit }
+        ensures limit { snap_limit_in result.wide.splitter ≡ snap_limit }
+        ensures narrow_limit { snap_limit_in result.narrow.splitter ≡ snap_limit }
         ensures subject { contours_in result Subject ≡ [] }
         ensures clip { contours_in result Clip ≡ [] }
         ensures passes { passes_of result.polygons ≡ 0 }

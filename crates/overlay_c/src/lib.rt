@@ -3,7 +3,7 @@
 
 ghost use Rattle.std.specs.Prelude.{◌≡◌, ◌≢◌, ◌≤ℤ◌, pos, unsigned_abs, ◌↔◌, ◌<◌, ◌^◌, [], ◌∷◌, ◌++◌, true, false, None, IsSome, IsTrue, IsFalse, IfSome, length, map};
 ghost use Rattle.overlay_base.specs.Join.{join, join_leaves_range, has_equal_pairs};
-ghost use Rattle.overlay_split.specs.SettingsOf.{snap_limit_of};
+ghost use Rattle.i_overlay.specs.SplitterOf.{snap_limit_in};
 ghost use Rattle.overlay_c.specs.Records.{start_of, end_of, line_asked_by, told_by, line_told_by, link_by, shape_of, fill_rule_of, number_by};
 ghost use Rattle.overlay_c.specs.Calls.{Turns, Leaves, Chooses, MaySplit, MayNotSplit, MaySplitLines, MayNotSplitLines, KeepsOverlayBy, KeepsDataBy, KeepsClipBy, SameContours, SameResult, SameShape, AddsContour, KeepsPolygonsBy, KeepsShapesBy, KeepsRulesBy, KeepsArrangedContoursBy, KeepsArrangedShapesBy, HasArrangement, HasNoArrangement, IsAddCode, PolygonCountsLeaveRange};
 ghost use Rattle.overlay_c.specs.Arranged.{KeepsArrangement, SameArrangement, StaysAsArranged, IsReportOf, IsReportOfNothing};
@@ -54,8 +54,8 @@ use std::alloc::Global;
 pub extern "C" fn overlay_c_new(alloc: Global, handle: &mut Handle, snap_limit: u32) -> bool
     requires { handle.old.engine ≡ None }
     ensures made { IsTrue result ↔ IsSome handle.new.engine }
-    ensures limit { IfSome handle.new.engine (λ engine. snap_limit_of engine.wide.splitter ≡ snap_limit) }
-    ensures narrow_limit { IfSome handle.new.engine (λ engine. snap_limit_of engine.narrow.splitter ≡ snap_limit) }
+    ensures limit { IfSome handle.new.engine (λ engine. snap_limit_in engine.wide.splitter ≡ snap_limit) }
+    ensures narrow_limit { IfSome handle.new.engine (λ engine. snap_limit_in engine.narrow.splitter ≡ snap_limit) }
     ensures subject { IfSome handle.new.engine (λ engine. contours_in engine Subject ≡ []) }
     ensures clip { IfSome handle.new.engine (λ engine. contours_in engine Clip ≡ []) }
     ensures passes { IfSome handle.new.engine (λ engine. passes_of engine.polygons ≡ 0) }

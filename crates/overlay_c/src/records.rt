@@ -117,8 +117,8 @@ pub struct SettingsRecord {
     pub fill_rule: u8,
     /// 0 for coordinates of 32 bits, else those of 16.
     pub engine: u8,
-    /// Where overlays of contours put crossings that are no whole points: 0 for snap rounding, else pair by pair, as
-    /// upstream does. Segments and lines are split pair by pair, whatever it is.
+    /// Where crossings without integer coordinates go, of contours, of segments and of lines: 0 for snap rounding, in one
+    /// pass, else pair by pair, pass after pass, as upstream does. Snap rounding takes no precision and no snap limit.
     pub rounding: u8,
 }
 
@@ -391,7 +391,7 @@ pub struct SizesRecord {
     /// Whether the last `overlay_c_split` joined equal segments or split one, or, if that came later, the last
     /// `overlay_c_join` joined some. Other calls leave it as it is.
     pub has_changed: bool,
-    /// How many passes the last split made, up to `u64::MAX`.
+    /// How many passes the last split made, up to `u64::MAX`: 1 by snap rounding.
     pub passes: u64,
 }
 
