@@ -62,6 +62,19 @@ compare_with_upstream() {
     fi
 }
 
+# Compares the relations of 100,000 random pairs of valid polygons with those that GEOS finds, where it is installed.
+compare_with_geos() {
+    local said state=0
+    said=$(python3 bench/peers/relations.py check 100000) || state=$?
+    printf '%5d s: %s\n' "$SECONDS" "${said:-relations were NOT compared with GEOS}"
+    if ((state == 0)); then
+        passed=$((passed + 1))
+    elif ((state != 3)); then
+        printf '%5d s: relations DIFFER from those of GEOS\n' "$SECONDS"
+        failed=$((failed + 1)) status=1
+    fi
+}
+
 # Builds the checked calls for C over what is shipped, runs the example and the table under sanitizers, where the compiler has them, and
 # the tests of the package for Python over the shared library; then all that is installed, in an empty environment.
 test_calls() {
@@ -149,6 +162,7 @@ if [[ $verdict =~ ^([0-9]+)\ passed,\ ([0-9]+)\ failed(.*)$ ]]; then
             printf '%5d s: the tests of rust/ passed\n' "$SECONDS"
             passed=$((passed + 1))
             compare_with_upstream
+            compare_with_geos
         else
             printf '%5d s: the tests of rust/ FAILED\n' "$SECONDS"
             failed=$((failed + 1)) status=1

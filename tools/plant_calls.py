@@ -81,6 +81,8 @@ PLANTS = [
     Plant("within is covers", RUST + "relations.rs", "IsWithin = 2,\n    SameRegion = 3,", "IsWithin = 3,\n    SameRegion = 2,", "relations"),
     Plant("rows of the matrix are exchanged", RUST + "relations.rs", "[interior, boundary, exterior]", "[interior, exterior, boundary]", "relations"),
     Plant("the clip is named for the subject", RUST + "relations.rs", "6 => Error::NotExact(ShapeType::Subject)", "6 => Error::NotExact(ShapeType::Clip)", "relations"),
+    Plant("boxes that touch are apart", RUST + "related.rs", "low.x <= other_high.x", "low.x < other_high.x", "related"),
+    Plant("regions without area are covered", RUST + "related.rs", "Ok(holds && overlay.interiors_meet(fill_rule)?)", "Ok(holds)", "related"),
     Plant("floats are cut", RUST + "float.rs", "(point[axis] - center[axis]) * scale).round()", "(point[axis] - center[axis]) * scale).trunc()"),
     Plant("parts are joined where the line left", RUST + "clip.rs", "(is_open || index > 0) &&", "(is_open || index < 9) &&", "clip_lines"),
     Plant("an engine that was not made is freed", RUST + "ffi.rs", "is_full.then(|| Engine { handle })", "is_full.then_some(Engine { handle })", "memory"),

@@ -23,6 +23,7 @@ mod memory;
 mod names;
 mod overlay;
 mod point;
+mod related;
 mod relations;
 mod rules;
 mod segment;
@@ -38,6 +39,7 @@ pub use measure::{bounding_box, doubled_area, doubled_area_of_shape, PointLocati
 pub use names::UnknownName;
 pub use overlay::{Change, Overlay};
 pub use point::{square, Engine, IntContour, IntPoint, IntShape, MAX_COORD, MIN_COORD};
+pub use related::{related_pairs, PairError, Predicate};
 pub use relations::{Part, Relation};
 pub use rules::{ClipRule, FillRule, OverlayRule, RuleTable};
 pub use segment::{DataSegment, LineSegment, Segment, ShapeCountBoolean, ShapeType};

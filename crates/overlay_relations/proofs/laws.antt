@@ -22,3 +22,4 @@ pub mod EdgeLists
 pub mod MatrixOutcomes
 pub mod Outcomes
 pub mod Refusals
+pub mod Patterns

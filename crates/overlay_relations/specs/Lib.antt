@@ -2,6 +2,7 @@ pub mod Relations
 pub mod Boundaries
 pub mod Contacts
 pub mod Matrix
+pub mod Patterns
 pub mod Refusals
 pub mod Regions
 -- what only contracts of private functions use

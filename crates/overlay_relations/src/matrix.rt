@@ -1,6 +1,6 @@
 // Which parts of two shapes meet: the inside, the boundary and the outside of the one with those of the other, without rounding.
 // Where boundaries cross at a point without integer coordinates, all parts meet. Else six regions of one arrangement decide it.
-ghost use Rattle.std.specs.Prelude.{◌≡◌, ◌↔◌, true, IsTrue, List, Contains, IsSortedByKey, OnOk, IfOk, IfErr, map};
+ghost use Rattle.std.specs.Prelude.{◌≡◌, ◌↔◌, true, IsTrue, List, Contains, IsSortedByKey, OnOk, IfOk, IfErr, IfNone, IfSome, IsFalse, map};
 ghost use Rattle.overlay_geometry.specs.PairOf.{pair_of};
 ghost use Rattle.overlay_geometry.specs.Points.{Point, Pair, pair_cmp};
 ghost use Rattle.overlay_base.specs.SegmentOf.{ends_of};
@@ -13,6 +13,7 @@ ghost use Rattle.overlay_contours.specs.ContoursOf.{contours_of};
 ghost use Rattle.overlay_contours.specs.Splittings.{by_snapping};
 ghost use Rattle.overlay_relations.specs.Matrix.{entry, IsMatrix};
 ghost use Rattle.overlay_relations.specs.MatrixLaws.{HaveCommonEdge};
+ghost use Rattle.overlay_relations.specs.Patterns.{is_letter, is_pattern, allows, Fits};
 ghost use Rattle.overlay_relations.specs.Refusals.{IsRefusalOf, IsOverlayRefusal};
 ghost use Rattle.overlay_relations.specs.steps.MatrixOutcomes.{IsBoundaryMatrix, ShareSomePair};
 
@@ -73,6 +74,61 @@ impl Relation {
             (Part::Exterior, Part::Boundary) => self.exterior_boundary,
             (Part::Exterior, Part::Exterior) => self.exterior_exterior,
         }
+    }
+
+    /// Whether the entries are those of a pattern of nine letters, as `b"T*F**FFF*"`.
+    ///
+    /// The letters are those of the interior of the subject with the interior, the boundary and the exterior of the clip, then of
+    /// its boundary, then of its exterior: `T` where parts have to meet, `F` where they may not, and `*` where both will do.
+    /// Returns `None` where there is another letter: digits are refused, since the dimension of an entry is not known.
+    pub fn matches(&self, pattern: &[u8; 9]) -> Option<bool>
+        ensures letters { IfNone result (IsFalse (is_pattern pattern.now)) }
+        ensures fits { IfSome result (λ fits. IsTrue (is_pattern pattern.now) × ((fits ≡ true) ↔ Fits pattern.now self.now)) }
+    {
+        if !is_pattern(pattern) {
+            return None;
+        }
+        Some(
+            allows(pattern[0], self.interior_interior)
+                & allows(pattern[1], self.interior_boundary)
+                & allows(pattern[2], self.interior_exterior)
+                & allows(pattern[3], self.boundary_interior)
+                & allows(pattern[4], self.boundary_boundary)
+                & allows(pattern[5], self.boundary_exterior)
+                & allows(pattern[6], self.exterior_interior)
+                & allows(pattern[7], self.exterior_boundary)
+                & allows(pattern[8], self.exterior_exterior),
+        )
+    }
+}
+
+/// Whether all letters are those of patterns.
+fn is_pattern(letters: &[u8]) -> bool
+    ensures { result ≡ is_pattern letters.now }
+{
+    for letter in letters {
+        if !is_letter(*letter) {
+            return false;
+        }
+    }
+    true
+}
+
+/// Whether a letter is one of patterns.
+fn is_letter(letter: u8) -> bool
+    ensures { result ≡ is_letter letter }
+{
+    matches!(letter, b'T' | b'F' | b'*')
+}
+
+/// Whether a letter of a pattern allows an entry.
+fn allows(letter: u8, meet: bool) -> bool
+    ensures { result ≡ allows letter meet }
+{
+    match letter {
+        b'T' => meet,
+        b'F' => !meet,
+        _ => true,
     }
 }
 

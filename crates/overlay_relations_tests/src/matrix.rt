@@ -209,3 +209,21 @@ fn inexact_crossings_are_named(rt: HostRuntime) -> Result<(), Fail> {
     assert_eq!(rt; of_clip, Err(RelationFault::NotExact(ShapeType::Clip)));
     Ok(())
 }
+
+#[test]
+fn patterns_worked_by_hand(rt: HostRuntime) -> Result<(), Fail> {
+    let square = contours_from(rt.alloc(), &[SQUARE])?;
+    let corner = contours_from(rt.alloc(), &[&[(4, 4), (6, 4), (6, 6), (4, 6)]])?;
+    let touch = relate(
+        rt.alloc(),
+        &square,
+        &corner,
+        &Solver::AUTO,
+        FillRule::EvenOdd,
+    )?;
+    assert_eq!(rt; touch.matches(b"FFTFTTTTT"), Some(true));
+    assert_eq!(rt; touch.matches(b"F***T****"), Some(true));
+    assert_eq!(rt; touch.matches(b"T*F**FFF*"), Some(false));
+    assert_eq!(rt; touch.matches(b"F***0****"), None);
+    Ok(())
+}
