@@ -1,5 +1,5 @@
 -- What is inside a shape is in the box around its points. So shapes whose boxes share no point share none.
-use Rattle.std.proofs.Common.{◌≡◌, ap, refl, sym, subst, ◌∙◌, arith, ℕ, ◌<◌, inl, inr, suc, List, [], ◌∷◌, ◌++◌}
+use Rattle.std.proofs.Common.{◌≡◌, ap, refl, sym, subst, ◌∙◌, arith, ℕ, ◌<◌, inl, inr, suc, List, [], ◌∷◌}
 use Rattle.std.specs.Prelude.{ℤ, pos, ◌*ℤ◌, ◌≤ℤ◌, ◌<ℤ◌, int_le, Bool, true, false, IsTrue, ◌&&◌, ◌⊎◌, ◌==◌, length, Option, Some, None, IfNone, IfSome}
 use Rattle.std.specs.List.{list_all}
 use Rattle.std.proofs.lemmas.Int.{ints}
@@ -11,16 +11,16 @@ use Rattle.overlay_geometry.specs.Ranges.{Rect, do_rects_meet}
 use Rattle.overlay_geometry.specs.declared.geom.rect.IntRect.{IntRect}
 use Rattle.overlay_geometry.proofs.laws.geometry.Points.{from_before}
 use Rattle.overlay_geometry.proofs.laws.integers.Tests.{le-test, le-tested, le-tested_false}
-use Rattle.overlay_geometry.proofs.laws.lists.Elements.{Contains-from_Has, Has-from_Contains}
+use Rattle.overlay_geometry.proofs.laws.lists.Elements.{Contains-from_Has}
 use Rattle.overlay_geometry.proofs.laws.lists.Lists.{Has, Has-map, list_all-at, list_all-from_Has}
 use Rattle.overlay_base.specs.Places.{RationalPoint, winding_below}
 use Rattle.overlay_base.specs.Rays.{is_on_none}
-use Rattle.overlay_base.specs.Segments.{WholeSegment, pairs, are_ordered}
-use Rattle.overlay_base.specs.Windings.{Winding, empty}
+use Rattle.overlay_base.specs.Segments.{WholeSegment, are_ordered}
+use Rattle.overlay_base.specs.Windings.{empty}
 use Rattle.overlay_base.specs.declared.overlay_core.fill_rule.FillRule.{FillRule}
 use Rattle.overlay_base.specs.declared.overlay_core.fill_rule.FillRule.TheVariants.{EvenOdd, NonZero, Positive, Negative}
 use Rattle.overlay_base.specs.declared.segm.shape_type.ShapeType.TheVariants.{Subject}
-use Rattle.overlay_split.specs.Places.{IsFar}
+use Rattle.overlay_cuts.specs.Places.{IsFar}
 use Rattle.overlay_split.proofs.laws.nearness.FarRays.{far_lies_on_none}
 use Rattle.overlay_sweep.specs.Fill.{is_inside}
 use Rattle.overlay_build.specs.Boundary.{truth}

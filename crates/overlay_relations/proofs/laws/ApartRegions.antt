@@ -1,6 +1,6 @@
 -- Regions whose boxes share no point: what that decides.
 use Rattle.std.proofs.Common.{◌≡◌, refl, sym, ◌∙◌, List}
-use Rattle.std.specs.Prelude.{Bool, true, false, ◌↔◌}
+use Rattle.std.specs.Prelude.{Bool, true, false}
 use Rattle.overlay_geometry.specs.Points.{Point}
 use Rattle.overlay_base.specs.declared.overlay_core.fill_rule.FillRule.{FillRule}
 use Rattle.overlay_relations.specs.Boxes.{do_boxes_meet}

@@ -1,6 +1,6 @@
 -- The boxes of regions by their numbers, and the partners of a region: those whose boxes share no point with its box are none.
-use Rattle.std.proofs.Common.{◌≡◌, refl, sym, ap, subst, ◌∙◌, ℕ, ◌+◌, ◌<◌, inl, inr, List, [], ◌∷◌, ◌++◌, length, get_or, map, filter, arith}
-use Rattle.std.specs.Prelude.{ℤ, int_le, ◌&&◌, Bool, true, false, All, Contains, ◌↔◌, ◌⊎◌, Option, Some, None}
+use Rattle.std.proofs.Common.{◌≡◌, refl, sym, ap, subst, ◌∙◌, ℕ, ◌+◌, ◌<◌, inl, inr, List, [], ◌∷◌, ◌++◌, length, get_or, filter, arith}
+use Rattle.std.specs.Prelude.{int_le, ◌&&◌, Bool, true, false, Contains, ◌↔◌, Option, Some, None}
 use Rattle.std.proofs.lemmas.Bool.{both_ways, cases_Bool}
 use Rattle.std.proofs.lemmas.List.Elements.{All-contains, Contains-push, Contains-push_cases, Contains-append_left}
 use Rattle.overlay_geometry.specs.RangeOf.{rect_of}

@@ -1,5 +1,5 @@
 use Rattle.std.proofs.Common.{◌≡◌, sym, subst}
-use Rattle.std.specs.Prelude.{Bool, true, false, IfOk}
+use Rattle.std.specs.Prelude.{Bool, true, false}
 use Rattle.std.proofs.lemmas.Result.{IfOk-weaker}
 use Rattle.overlay_relations.specs.Pairs.{Says}
 use Rattle.overlay_relations.specs.Regions.{DecidesCovering, DecidesLyingWithin, DecidesSameness}
