@@ -22,4 +22,11 @@ pub mod EdgeLists
 pub mod MatrixOutcomes
 pub mod Outcomes
 pub mod Refusals
+pub mod Halfplanes
+pub mod Gaps
+pub mod Columns
+pub mod PairLists
+pub mod ApartBoxes
+pub mod ApartRegions
 pub mod Patterns
+pub mod Partners

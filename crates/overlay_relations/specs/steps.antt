@@ -1,3 +1,4 @@
 pub mod Outcomes
 pub mod ContactOutcomes
 pub mod MatrixOutcomes
+pub mod Columns

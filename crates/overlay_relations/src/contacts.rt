@@ -16,6 +16,7 @@ ghost use Rattle.overlay_relations.specs.Refusals.{IsRefusalOf, IsOverlayRefusal
 ghost use Rattle.overlay_relations.specs.declared.contacts.Contact.TheVariants.{Apart, Touching};
 ghost use Rattle.overlay_relations.specs.steps.ContactOutcomes.{IsContact, IsBoundaryContact, ShareSome};
 
+use crate::boxes::{bounds_of, do_boxes_meet};
 use crate::fault::RelationFault;
 use crate::predicates::{add_contours, exact_boundary, test_range};
 use overlay_base::overlay_core::fill_rule::FillRule;
@@ -101,6 +102,13 @@ pub(crate) fn is_apart(contact: Contact) -> bool
     matches!(contact, Contact::Apart)
 }
 
+/// Whether shapes that meet so share a point.
+pub(crate) fn is_sharing(contact: Contact) -> bool
+    ensures { (result ≡ true) ↔ (contact ≡ Apart → ⊥) }
+{
+    !matches!(contact, Contact::Apart)
+}
+
 /// How two shapes meet.
 fn find_contact<I: OverlayInt>(
     alloc: Global,
@@ -116,6 +124,9 @@ fn find_contact<I: OverlayInt>(
 {
     test_range(subject, ShapeType::Subject)?;
     test_range(clip, ShapeType::Clip)?;
+    if !do_boxes_meet(&bounds_of(subject), &bounds_of(clip)) {
+        return Ok(Contact::Apart);
+    }
     let first = exact_boundary(alloc, subject, ShapeType::Subject, solver, fill_rule)?;
     let second = exact_boundary(alloc, clip, ShapeType::Clip, solver, fill_rule)?;
     let contact = boundary_contact(alloc, &first, &second, solver)?;

@@ -1,14 +1,18 @@
 // A shape prepared for relations to others.
 ghost use Rattle.std.specs.Prelude.{◌≡◌, ◌↔◌, true, IsTrue, OnOk, IfOk, IfErr};
 ghost use Rattle.overlay_base.specs.declared.segm.shape_type.ShapeType.TheVariants.{Subject};
+ghost use Rattle.overlay_contours.specs.Boxes.{all_points};
 ghost use Rattle.overlay_contours.specs.ContoursIn.{LieInRange};
 ghost use Rattle.overlay_contours.specs.ContoursOf.{contours_of};
 ghost use Rattle.overlay_contours.specs.ContourSegments.{are_in_range};
+ghost use Rattle.overlay_relations.specs.Boxes.{are_held, do_boxes_meet};
 ghost use Rattle.overlay_relations.specs.Refusals.{IsOverlayRefusal, IsRegionRefusalOf};
 
-use crate::contacts::{boundary_contact, is_apart, is_touching};
+use crate::boxes::{bounds_of, do_boxes_meet};
+use crate::contacts::{boundary_contact, is_apart, is_sharing, is_touching};
 use crate::fault::RelationFault;
 use crate::matrix::{Relation, boundary_relation};
+use crate::predicate::Predicate;
 use crate::predicates::{exact_boundary, holds_between, test_range};
 use overlay_base::overlay_core::fill_rule::FillRule;
 use overlay_base::overlay_core::overlay_rule::OverlayRule;
@@ -16,20 +20,24 @@ use overlay_base::overlay_core::solver::Solver;
 use overlay_base::segm::shape_type::ShapeType;
 use overlay_contours::contour::IntContour;
 use overlay_contours::fault::ContourFault;
+use overlay_geometry::geom::rect::IntRect;
 use overlay_geometry::num::OverlayInt;
 use std::alloc::Global;
 
-/// The region of a shape, prepared for relations to other regions: its boundary is found once.
+/// The region of a shape, prepared for relations to other regions: its boundary and the box around it are found once.
 #[derive(Drop)]
 pub struct Region<I: OverlayInt> {
     alloc: Global,
     boundary: Vec<IntContour<I>>,
+    bounds: Option<IntRect<I>>,
     pub ghost in_range: { IsTrue (are_in_range (I.whole I.MIN_COORD) (I.whole I.MAX_COORD)
         (contours_of I.whole boundary.items)) },
+    pub ghost bounded: { IsTrue (are_held I.whole (all_points (contours_of I.whole boundary.items)) bounds) },
 }
 
 impl<I: OverlayInt> Region<I> {
-    ghost use Rattle.overlay_relations.specs.Regions.{boundary_of, IsRegionOf, DecidesMeeting, DecidesCovering, DecidesLyingWithin, DecidesSameness, DecidesTouching, DecidesDisjointness, DecidesMatrix};
+    ghost use Rattle.overlay_relations.specs.Regions.{boundary_of, IsRegionOf, DecidesMeeting, DecidesCovering, DecidesLyingWithin, DecidesSameness, DecidesTouching, DecidesDisjointness, DecidesSharing, DecidesMatrix};
+    ghost use Rattle.overlay_relations.specs.Pairs.{Says};
 
     /// The region of contours under a fill rule. Two regions that are compared may have two fill rules.
     ///
@@ -49,7 +57,12 @@ impl<I: OverlayInt> Region<I> {
     {
         test_range(contours, ShapeType::Subject)?;
         let boundary = exact_boundary(alloc, contours, ShapeType::Subject, solver, fill_rule)?;
-        Ok(Region { alloc, boundary })
+        let bounds = bounds_of(&boundary);
+        Ok(Region {
+            alloc,
+            boundary,
+            bounds,
+        })
     }
 
     /// The boundary of the region: contours that have it on their left. No two of their edges share more than an end.
@@ -60,6 +73,20 @@ impl<I: OverlayInt> Region<I> {
         &self.boundary
     }
 
+    /// The least box around the boundary, if there is one.
+    pub(crate) fn bounds(&self) -> Option<IntRect<I>>
+        ensures { result ≡ self.now.bounds }
+    {
+        self.bounds
+    }
+
+    /// Whether the boxes of the regions share a point. If not, the regions share none.
+    fn is_near(&self, other: &Region<I>) -> bool
+        ensures { result ≡ do_boxes_meet I.whole self.now.bounds other.now.bounds }
+    {
+        do_boxes_meet(&self.bounds, &other.bounds)
+    }
+
     /// Whether some point of the plane is inside both regions, as the function `interiors_meet` returns it.
     ///
     /// Returns `Fault::CountOutOfRange` only where counts of both boundaries leave `-i32::MAX..=i32::MAX`, and
@@ -68,6 +95,9 @@ impl<I: OverlayInt> Region<I> {
         ensures meet { IfOk result (DecidesMeeting self.now other.now) }
         ensures refused { IfErr result (IsOverlayRefusal (boundary_of self.now) (boundary_of other.now)) }
     {
+        if !self.is_near(other) {
+            return Ok(false);
+        }
         holds_between(
             self.alloc,
             &self.boundary,
@@ -129,6 +159,9 @@ impl<I: OverlayInt> Region<I> {
         ensures touch { IfOk result (DecidesTouching self.now other.now) }
         ensures refused { IfErr result (IsOverlayRefusal (boundary_of self.now) (boundary_of other.now)) }
     {
+        if !self.is_near(other) {
+            return Ok(false);
+        }
         let contact = boundary_contact(self.alloc, &self.boundary, &other.boundary, solver)?;
         Ok(is_touching(contact))
     }
@@ -138,8 +171,58 @@ impl<I: OverlayInt> Region<I> {
         ensures disjoint { IfOk result (DecidesDisjointness self.now other.now) }
         ensures refused { IfErr result (IsOverlayRefusal (boundary_of self.now) (boundary_of other.now)) }
     {
+        if !self.is_near(other) {
+            return Ok(true);
+        }
         let contact = boundary_contact(self.alloc, &self.boundary, &other.boundary, solver)?;
         Ok(is_apart(contact))
+    }
+
+    /// Whether the regions share a point, inside or on their boundaries. Errors are those of `interiors_meet`.
+    pub fn share_point(&self, other: &Region<I>, solver: &Solver) -> Result<bool, ContourFault>
+        ensures share { IfOk result (DecidesSharing self.now other.now) }
+        ensures refused { IfErr result (IsOverlayRefusal (boundary_of self.now) (boundary_of other.now)) }
+    {
+        if !self.is_near(other) {
+            return Ok(false);
+        }
+        let contact = boundary_contact(self.alloc, &self.boundary, &other.boundary, solver)?;
+        Ok(is_sharing(contact))
+    }
+
+    /// Whether a relation holds by which pairs of regions are chosen. Errors are those of `interiors_meet`.
+    pub fn is_related(
+        &self,
+        other: &Region<I>,
+        predicate: Predicate,
+        solver: &Solver,
+    ) -> Result<bool, ContourFault>
+        ensures related { IfOk result (λ found. Says predicate self.now other.now (found ≡ true)) }
+        ensures refused { IfErr result (IsOverlayRefusal (boundary_of self.now) (boundary_of other.now)) }
+    {
+        match predicate {
+            Predicate::SharePoint => self.share_point(other, solver),
+            Predicate::InteriorsMeet => self.interiors_meet(other, solver),
+            Predicate::Touch => self.touches(other, solver),
+            Predicate::Covers => {
+                if !self.interiors_meet(other, solver)? {
+                    return Ok(false);
+                }
+                self.covers(other, solver)
+            }
+            Predicate::IsWithin => {
+                if !self.interiors_meet(other, solver)? {
+                    return Ok(false);
+                }
+                self.is_within(other, solver)
+            }
+            Predicate::SameRegion => {
+                if !self.interiors_meet(other, solver)? {
+                    return Ok(false);
+                }
+                self.same_region(other, solver)
+            }
+        }
     }
 
     /// Which parts of the regions meet, as the function `relate` returns it. Errors are those of `interiors_meet`.

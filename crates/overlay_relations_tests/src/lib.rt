@@ -6,4 +6,6 @@ mod contacts;
 #[cfg(test)]
 mod matrix;
 #[cfg(test)]
+mod pairs;
+#[cfg(test)]
 mod predicates;

@@ -22,7 +22,7 @@ use crate::lists::{Balance, Join, Snap, Sort, Split};
 use crate::sweeps::Sweep;
 use crate::wholes::{
     Clipped, Contacts, Contours, KeptArrangement, KeptContours, KeptRules, KeptShapes, LineClip,
-    Overlay, Relations, Shapes, Snapped, Sources, Tiled,
+    Overlay, Pairs, Relations, Shapes, Snapped, Sources, Tiled,
 };
 use i_overlay::build::scan_list::ScanList;
 use i_overlay::build::scan_tree::ScanTree;
@@ -115,6 +115,7 @@ fn tell_contours(rt: HostRuntime) -> io::Result<()> {
 fn tell_kept(rt: HostRuntime) -> io::Result<()> {
     tell(rt, "relations", "", Relations {})?;
     tell(rt, "contacts", "", Contacts {})?;
+    tell(rt, "related pairs", "", Pairs {})?;
     tell(rt, "clip to a tile", "", Clipped {})?;
     tell(rt, "overlay by tiles", "", Tiled {})?;
     tell(rt, "sources", "", Sources {})?;

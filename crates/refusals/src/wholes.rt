@@ -25,6 +25,8 @@ use overlay_contours::sources::{
     SourceContour, overlay_contours_with_sources, overlay_shapes_with_sources,
 };
 use overlay_relations::fault::RelationFault;
+use overlay_relations::pairs::{PairFault, related_pairs};
+use overlay_relations::predicate::Predicate;
 use overlay_relations::predicates::{covers, interiors_meet};
 use overlay_relations::region::Region;
 use overlay_tiles::clip::clip_to_tile;
@@ -333,6 +335,26 @@ impl Case for Contacts {
                 digest: 0,
             }),
             (Err(fault), _) | (_, Err(fault)) => Err(contour_stop(fault)),
+        }
+    }
+}
+
+/// Which of two regions touch a third: one has a corner in common with it.
+#[derive(Drop)]
+pub struct Pairs {}
+
+impl Case for Pairs {
+    fn try_once(&mut self, alloc: Global) -> Result<Summary, Stop> {
+        let first = vec![in alloc; region(0, alloc)?]?;
+        let second = vec![in alloc; region(4, alloc)?, region(9, alloc)?]?;
+        match related_pairs(alloc, &first, &second, Predicate::Touch, &Solver::AUTO) {
+            Ok(pairs) => Ok(Summary {
+                count: pairs.len(),
+                others: 0,
+                digest: 0,
+            }),
+            Err(PairFault::Relation { cause, .. }) => Err(contour_stop(cause)),
+            Err(PairFault::Memory) => Err(Stop::Refused),
         }
     }
 }

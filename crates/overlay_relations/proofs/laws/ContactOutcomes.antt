@@ -117,3 +117,8 @@ module _ (subject_rule clip_rule : FillRule) (subject clip : List (List Point)) 
   lying_apart Apart is told h = (λ t. is, λ apart. h.1 refl)
   lying_apart Touching is told h = (λ t. absurd (cc (h.0 t)), λ apart. absurd (apart is.0))
   lying_apart Meeting is told h = (λ t. absurd (cc (h.0 t)), λ apart. absurd (apart (meeting_shares subject_rule clip_rule subject clip is)))
+
+  pub sharing : (contact : Contact) → IsContact subject_rule clip_rule subject clip contact → (told : Bool) → (told ≡ true) ↔ (contact ≡ Apart → ⊥) → (told ≡ true) ↔ SharePoint subject_rule clip_rule subject clip
+  sharing Apart is told h = (λ t. absurd (h.0 t refl), λ share. absurd (is share))
+  sharing Touching is told h = (λ t. is.0, λ share. h.1 (λ e. absurd (cc)))
+  sharing Meeting is told h = (λ t. meeting_shares subject_rule clip_rule subject clip is, λ share. h.1 (λ e. absurd (cc)))

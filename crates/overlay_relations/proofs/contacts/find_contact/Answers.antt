@@ -1,9 +1,17 @@
+use Rattle.std.proofs.Common.{sym, ◌∙◌}
 use Rattle.overlay_contours.specs.ContoursOf.{contours_of}
 use Rattle.overlay_contours.proofs.laws.Overlays.{refused_as}
 use Rattle.overlay_relations.specs.Refusals.{IsRefusalOf}
 use Rattle.overlay_relations.specs.declared.fault.RelationFault.TheVariants.{Refused}
 use Rattle.overlay_relations.proofs.laws.Refusals.{subject_refuses, clip_refuses, boundaries_refuse}
+use Rattle.overlay_relations.proofs.laws.ApartBoxes.{disjoint_contours}
 use Rattle.overlay_relations.proofs.contacts.find_contact.Goals as goal
+
+pub returns-then-not-do_boxes_meet-clause-contact : goal.returns-then-not-do_boxes_meet-clause-contact
+returns-then-not-do_boxes_meet-clause-contact g c =
+    let whole = g.I.OverlayInt.whole in
+    disjoint_contours whole c.args.fill_rule c.args.fill_rule (contours_of whole c.args.subject.now) (contours_of whole c.args.clip.now) c.bounds_of.result c.bounds_of-2.result c.bounds_of.ensures c.bounds_of-2.ensures
+    (sym c.do_boxes_meet.ensures ∙ c.if-not-do_boxes_meet.true)
 
 pub returns-in_err-first-clause-refused : goal.returns-in_err-first-clause-refused
 returns-in_err-first-clause-refused g c =

@@ -1,7 +1,12 @@
+use Rattle.std.proofs.Common.{sym, ◌∙◌}
 use Rattle.overlay_relations.specs.Regions.{boundary_of}
 use Rattle.overlay_relations.specs.steps.ContactOutcomes.{IsBoundaryContact}
 use Rattle.overlay_relations.proofs.laws.ContactOutcomes.{lying_apart}
+use Rattle.overlay_relations.proofs.laws.ApartRegions.{apart_disjoint}
 use Rattle.overlay_relations.proofs.region.Region.is_disjoint.Goals as goal
+
+pub returns-then-not-is_near-clause-disjoint : goal.returns-then-not-is_near-clause-disjoint
+returns-then-not-is_near-clause-disjoint g c = apart_disjoint c.args.self.now c.args.other.now (sym c.is_near.ensures ∙ c.if-not-is_near.true)
 
 pub returns-clause-disjoint : goal.returns-clause-disjoint
 returns-clause-disjoint g c =
