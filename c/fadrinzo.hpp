@@ -201,6 +201,18 @@ template <class Points> std::size_t append(std::vector<std::int32_t> &xy, const 
     return (xy.size() - before) / 2;
 }
 
+/* The coordinates of contours, one after another, and how many points each has. */
+struct Numbers {
+    std::vector<std::int32_t> xy;
+    std::vector<std::size_t> lengths;
+
+    template <class Contours> explicit Numbers(const Contours &contours)
+    {
+        for (const auto &contour : contours)
+            lengths.push_back(append(xy, contour));
+    }
+};
+
 inline std::vector<Contour> contours(const fadrinzo_result &found, std::size_t first, std::size_t end)
 {
     std::vector<Contour> made;
@@ -257,14 +269,20 @@ public:
     template <class Points, std::enable_if_t<!detail::is_points<Points>, int> = 0> void add_contour(ShapeType, const Points &) = delete;
     void add_contour(ShapeType shape, const Contour &points) { add_contour<Contour>(shape, points); }
 
+    /* Adds many contours, as `add_contour` adds each. If a point is out of range nothing is added. */
+    template <class Contours, std::enable_if_t<detail::is_rings<Contours>, int> = 0> void add_contours(ShapeType shape, const Contours &contours)
+    {
+        detail::Numbers given(contours);
+        detail::check(fadrinzo_add_contours(handle(), static_cast<int>(shape), given.xy.data(), given.lengths.data(), given.lengths.size()));
+    }
+    template <class Contours, std::enable_if_t<!detail::is_rings<Contours>, int> = 0> void add_contours(ShapeType, const Contours &) = delete;
+    void add_contours(ShapeType shape, const std::vector<Contour> &contours) { add_contours<std::vector<Contour>>(shape, contours); }
+
     /* Adds a polygon of rings that run either way, the outer boundary first: a shape of a result, or other rings of points. */
     template <class Rings, std::enable_if_t<detail::is_rings<Rings>, int> = 0> void add_polygon(ShapeType shape, const Rings &rings)
     {
-        std::vector<std::int32_t> xy;
-        std::vector<std::size_t> lengths;
-        for (const auto &ring : rings)
-            lengths.push_back(detail::append(xy, ring));
-        detail::check(fadrinzo_add_polygon(handle(), static_cast<int>(shape), xy.data(), lengths.data(), lengths.size()));
+        detail::Numbers given(rings);
+        detail::check(fadrinzo_add_polygon(handle(), static_cast<int>(shape), given.xy.data(), given.lengths.data(), given.lengths.size()));
     }
     template <class Rings, std::enable_if_t<!detail::is_rings<Rings>, int> = 0> void add_polygon(ShapeType, const Rings &) = delete;
     void add_polygon(ShapeType shape, const Shape &rings) { add_polygon<Shape>(shape, rings); }

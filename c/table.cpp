@@ -34,6 +34,9 @@ struct HalfWide {
 template <class T, class = void> constexpr bool takes_contour = false;
 template <class T>
 constexpr bool takes_contour<T, std::void_t<decltype(std::declval<Overlay &>().add_contour(ShapeType::Clip, std::declval<T>()))>> = true;
+template <class T, class = void> constexpr bool takes_contours = false;
+template <class T>
+constexpr bool takes_contours<T, std::void_t<decltype(std::declval<Overlay &>().add_contours(ShapeType::Clip, std::declval<T>()))>> = true;
 template <class T, class = void> constexpr bool takes_polygon = false;
 template <class T>
 constexpr bool takes_polygon<T, std::void_t<decltype(std::declval<Overlay &>().add_polygon(ShapeType::Clip, std::declval<T>()))>> = true;
@@ -52,6 +55,7 @@ void check_types()
     CHECK(!takes_contour<std::vector<std::array<std::int64_t, 2>>> && !takes_contour<std::vector<std::array<std::uint32_t, 2>>>);
     CHECK(!takes_contour<std::vector<std::array<double, 2>>> && !takes_contour<std::vector<std::array<std::int32_t, 3>>>);
     CHECK(!takes_contour<std::vector<std::int32_t>> && !takes_contour<Shape>);
+    CHECK(takes_contours<Shape> && takes_contours<std::vector<std::vector<Whole>>> && !takes_contours<std::vector<std::vector<Wide>>>);
     CHECK(takes_polygon<Shape> && takes_polygon<std::vector<std::vector<Whole>>> && !takes_polygon<std::vector<std::vector<Wide>>>);
     CHECK(std::is_constructible_v<Point, int, short> && !std::is_constructible_v<Point, std::int64_t, int>);
     CHECK(!std::is_constructible_v<Point, int, std::int64_t> && !std::is_constructible_v<Point, unsigned, int>);
@@ -146,8 +150,7 @@ void check_fill_rules()
     const std::pair<FillRule, std::int64_t> areas[] = {
         {FillRule::EvenOdd, 9 + 4}, {FillRule::NonZero, 16 + 9 + 4}, {FillRule::Positive, 16 + 4}, {FillRule::Negative, 9}};
     Overlay overlay;
-    for (const Contour &contour : {rectangle(0, 0, 4, 4), rectangle(0, 0, 4, 4), reversed(rectangle(10, 0, 13, 3)), rectangle(20, 0, 22, 2)})
-        overlay.add_contour(ShapeType::Subject, contour);
+    overlay.add_contours(ShapeType::Subject, {rectangle(0, 0, 4, 4), rectangle(0, 0, 4, 4), reversed(rectangle(10, 0, 13, 3)), rectangle(20, 0, 22, 2)});
     for (const auto &[fill_rule, area] : areas) {
         CHECK(doubled_area(overlay.overlay(OverlayRule::Union, fill_rule)) == 2 * area);
         CHECK(doubled_area(overlay.overlay_shapes(OverlayRule::Union, fill_rule)) == 2 * area);
@@ -202,6 +205,7 @@ void check_points()
     CHECK(area_of([&](Overlay &it) { it.add_contour(ShapeType::Subject, whole); }) == 16);
     CHECK(area_of([&](Overlay &it) { it.add_contour(ShapeType::Subject, pairs); }) == 16);
     CHECK(area_of([&](Overlay &it) { it.add_contour(ShapeType::Subject, arrays); }) == 16);
+    CHECK(area_of([&](Overlay &it) { it.add_contours(ShapeType::Subject, std::array<std::vector<Whole>, 2>{whole, {}}); }) == 16);
     CHECK(area_of([&](Overlay &it) { it.add_polygon(ShapeType::Subject, std::vector<std::vector<Whole>>{whole}); }) == 16);
     CHECK(area_of([&](Overlay &it) { it.add_contour(ShapeType::Subject, Contour()); }) == 0);
     CHECK((Point{1, 2} == Point{1, 2}) && (Point{1, 2} != Point{2, 1}) && Point().x() == 0);
@@ -300,6 +304,7 @@ void check_refusals()
     Overlay overlay = two_squares();
     const FillRule fill_rule = FillRule::NonZero;
     CHECK(status_of([&] { overlay.add_contour(ShapeType::Clip, {{0, 0}, {1, 0}, {0, FADRINZO_MAX_COORD + 1}}); }) == FADRINZO_POINT_OUT_OF_RANGE);
+    CHECK(status_of([&] { overlay.add_contours(ShapeType::Clip, {rectangle(0, 0, 9, 9), rectangle(0, 0, 9, FADRINZO_MAX_COORD + 1)}); }) == FADRINZO_POINT_OUT_OF_RANGE);
     CHECK(status_of([&] { overlay.add_polygon(ShapeType::Clip, Shape{{{0, 0}, {1, 0}, {FADRINZO_MIN_COORD - 1, 1}}}); }) == FADRINZO_POINT_OUT_OF_RANGE);
     CHECK(status_of([&] { overlay.add_contour(static_cast<ShapeType>(9), Contour()); }) == FADRINZO_BAD_ARGUMENT);
     CHECK(status_of([&] { overlay.overlay(static_cast<OverlayRule>(99), fill_rule); }) == FADRINZO_BAD_ARGUMENT);

@@ -53,6 +53,7 @@ PLANTS = [
     Plant("a relation is that of another code", C, "&settings, (uint8_t)relation, &found);", "&settings, (uint8_t)(relation == 2 ? 1 : relation), &found);"),
     Plant("a refused relation is written", C, "    if (status == FADRINZO_OK)\n        *holds = found;", "    *holds = found;"),
     Plant("a relation without a name is taken", C, "relation <= FADRINZO_DISJOINT", "relation <= FADRINZO_DISJOINT + 1"),
+    Plant("contours of many are turned", C, "lengths, contours, add_as_given);", "lengths, contours, add_turned);"),
     Plant("wide coordinates are cut", HEADER, "::digits <= 31;", "::digits <= 63;"),
     Plant("an outer boundary is left out", HEADER, "contours(found, found.shape_starts[i], found", "contours(found, found.shape_starts[i] + 1, found"),
     Plant("bits of a table are exchanged", HEADER, "2 * subject + 4 * clip", "4 * subject + 2 * clip"),

@@ -53,10 +53,9 @@ def _add(handle, shape, xy, starts):
     starts = numpy.asarray(starts, numpy.int64)
     if starts.ndim != 1 or len(starts) < 1 or starts[0] != 0 or starts[-1] != len(xy) or (numpy.diff(starts) < 0).any():
         raise ValueError("the starts of contours go up, from 0 to the number of points")
-    first, add, at = xy.ctypes.data, _calls().fadrinzo_add_contour, ctypes.POINTER(ctypes.c_int32)
-    bounds = starts.tolist()
-    for start, end in zip(bounds, bounds[1:]):
-        _check(add(handle.at, shape, ctypes.cast(first + 8 * start, at), end - start))
+    lengths = numpy.ascontiguousarray(numpy.diff(starts), numpy.uintp)
+    points, sizes = xy.ctypes.data_as(ctypes.POINTER(ctypes.c_int32)), lengths.ctypes.data_as(ctypes.POINTER(ctypes.c_size_t))
+    _check(_calls().fadrinzo_add_contours(handle.at, shape, points, sizes, len(lengths)))
 
 
 def overlay_arrays(subject, clip, rule, fill="nonzero"):
