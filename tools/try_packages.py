@@ -77,6 +77,9 @@ OF_PYTHON = """from fadrinzo import overlay
 (boundary, holes), = overlay([[(0, 0), (4, 0), (4, 4), (0, 4)]], [[(2, 2), (6, 2), (6, 6), (2, 6)]], "union")
 print(*(number for point in boundary for number in point))
 """
+OF_VERSION = """import fadrinzo, importlib.metadata, pathlib
+assert fadrinzo.__version__ == importlib.metadata.version("fadrinzo") and pathlib.Path(fadrinzo.__file__).with_name("py.typed").is_file()
+"""
 
 
 class Room:
@@ -194,6 +197,7 @@ def python(room):
     program = room.write("user_python/user.py", OF_PYTHON)
     room.environment["PYTHONPATH"] = str(packages)
     expect(room.run(sys.executable, program, folder=room.folder / "home"))
+    room.run(sys.executable, "-c", OF_VERSION, folder=room.folder / "home")
     done = room.run(sys.executable, "-m", "fadrinzo", "union", "-", folder=room.folder / "home", given="POLYGON ((0 0, 4 0, 4 4, 0 4))\n")
     expect(done, "MULTIPOLYGON (((0 4, 0 0, 4 0, 4 4, 0 4)))")
     check_wheels(room, pip, program)
