@@ -9,6 +9,7 @@ FADRINZO_SO names its file.
 """
 from __future__ import annotations
 
+import _thread
 import collections.abc
 import contextlib
 import ctypes
@@ -293,9 +294,11 @@ class _Handle:
 
     def _run_apart(self, call, arguments):
         """The status of a call that another thread makes. Where an exception ends the wait, a call that has not begun is left out."""
-        found, ended, is_wanted = [], threading.Semaphore(0), [True]
+        found, begun, ended, is_wanted = [], threading.Lock(), threading.Semaphore(0), [True]
 
         def make():
+            if not begun.acquire(blocking=False):
+                return
             try:
                 with self._turn:
                     if is_wanted[0]:
@@ -306,8 +309,13 @@ class _Handle:
                     self.free()
 
         try:
-            threading.Thread(target=make, daemon=True).start()
-            ended.acquire()
+            try:
+                _thread.start_new_thread(make, ())
+            except (RuntimeError, MemoryError):
+                make()
+            # a thread that finds no memory begins nothing: then the call is made here
+            while not ended.acquire(timeout=0.5):
+                make()
         except BaseException:
             is_wanted[0] = False
             raise
