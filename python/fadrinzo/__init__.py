@@ -9,7 +9,6 @@ FADRINZO_SO names its file.
 """
 from __future__ import annotations
 
-import _thread
 import collections.abc
 import contextlib
 import ctypes
@@ -39,7 +38,6 @@ MAX_COUNT = (1 << 31) - 1
 VERSION = 2
 NO_MEMORY = 1
 NOT_EXACT = (6, 7)  # of the subject, of the clip
-MANY_POINTS = 1_000  # of so many a call may take longer than a thread takes to start
 
 # what calls take: numbers of any library, points and contours in any container, and names
 Coordinate = typing.Union[typing.SupportsIndex, typing.SupportsFloat]
@@ -271,72 +269,15 @@ def _shapes(handle, scale):
     return [(contours[0], contours[1:]) for contours in _parts(_calls().fadrinzo_get(handle), scale)]
 
 
-class _Handle:
-    """An overlay of the library, with how many points it was given. In the main thread a long call is made by another one, so that Ctrl-C
-    need not wait for its end: the overlay is busy until then, and one that is freed before is freed then."""
-
-    def __init__(self):
-        self.points, self._turn, self._is_dropped = 0, threading.Lock(), False
-        # what ctypes takes as an argument for this object
-        self._as_parameter_ = _calls().fadrinzo_new()
-        if not self._as_parameter_:
-            _check(NO_MEMORY)
-
-    def run(self, name, *arguments):
-        """Makes the call of a name, and raises what its status says."""
-        call = getattr(_calls(), f"fadrinzo_{name}")
-        if self.points >= MANY_POINTS and threading.current_thread() is threading.main_thread():
-            status = self._run_apart(call, arguments)
-        else:
-            with self._turn:
-                status = call(self, *arguments)
-        _check(status)
-
-    def _run_apart(self, call, arguments):
-        """The status of a call that another thread makes. Where an exception ends the wait, a call that has not begun is left out."""
-        found, begun, ended, is_wanted = [], threading.Lock(), threading.Semaphore(0), [True]
-
-        def make():
-            if not begun.acquire(blocking=False):
-                return
-            try:
-                with self._turn:
-                    if is_wanted[0]:
-                        found.append(call(self, *arguments))
-            finally:
-                ended.release()
-                if self._is_dropped:
-                    self.free()
-
-        try:
-            try:
-                _thread.start_new_thread(make, ())
-            except (RuntimeError, MemoryError):
-                make()
-            # a thread that finds no memory begins nothing: then the call is made here
-            while not ended.acquire(timeout=0.5):
-                make()
-        except BaseException:
-            is_wanted[0] = False
-            raise
-        return found[0]
-
-    def free(self):
-        """Frees the overlay, or lets the call do so that is not at its end."""
-        self._is_dropped = True
-        if self._turn.acquire(blocking=False):
-            at, self._as_parameter_ = self._as_parameter_, None
-            _calls().fadrinzo_free(at)
-            self._turn.release()
-
-
 def _filled(add):
     """A new overlay of the library, to which `add` adds contours. The caller frees it."""
-    handle = _Handle()
+    handle = _calls().fadrinzo_new()
+    if not handle:
+        _check(NO_MEMORY)
     try:
         add(handle)
     except BaseException:
-        handle.free()
+        _calls().fadrinzo_free(handle)
         raise
     return handle
 
@@ -350,7 +291,6 @@ def _load_contours(subject, clip, scale):
     def add(handle):
         for shape, contours in enumerate(given):
             for numbers in contours:
-                handle.points += len(numbers) // 2
                 _check(_calls().fadrinzo_add_contour(handle, shape, (ctypes.c_int32 * len(numbers))(*numbers), len(numbers) // 2))
 
     return _filled(add)
@@ -367,7 +307,6 @@ def _load_polygons(subject, clip, scale):
             for rings in polygons:
                 numbers = [number for ring in rings for number in ring]
                 lengths = [len(ring) // 2 for ring in rings]
-                handle.points += len(numbers) // 2
                 _check(_calls().fadrinzo_add_polygon(handle, shape, (ctypes.c_int32 * len(numbers))(*numbers),
                                                      (ctypes.c_size_t * len(lengths))(*lengths), len(lengths)))
 
@@ -426,7 +365,7 @@ def _owned(handle):
     try:
         yield handle
     finally:
-        handle.free()
+        _calls().fadrinzo_free(handle)
 
 
 def _loaded(subject, clip, scale):
@@ -456,7 +395,7 @@ def overlay(subject: Contours, clip: Contours, rule: Rule, fill: Fill = "nonzero
     """
     rule_code, fill_code = _code("rule", rule, RULES), _code("fill", fill, FILLS)
     with _loaded(subject, clip, scale) as handle:
-        handle.run("overlay_shapes", rule_code, fill_code)
+        _check(_calls().fadrinzo_overlay_shapes(handle, rule_code, fill_code))
         return _shapes(handle, scale)
 
 
@@ -482,7 +421,7 @@ def overlay_polygons(subject: Polygons, clip: Polygons, rule: Rule, fill: Fill =
     """
     rule_code, fill_code = _code("rule", rule, RULES), _code("fill", fill, FILLS)
     with _owned(_load_polygons(subject, clip, scale)) as handle:
-        handle.run("overlay_shapes", rule_code, fill_code)
+        _check(_calls().fadrinzo_overlay_shapes(handle, rule_code, fill_code))
         return _shapes(handle, scale)
 
 
@@ -513,8 +452,8 @@ class Arrangement(typing.Generic[Number]):
         fill_code = _code("fill", fill, FILLS)
         self._handle, self._scale = _load_contours(subject, clip, scale), scale
         self._lock = threading.Lock()
-        weakref.finalize(self, self._handle.free)
-        self._handle.run("arrange", fill_code)
+        weakref.finalize(self, _calls().fadrinzo_free, self._handle)
+        _check(_calls().fadrinzo_arrange(self._handle, fill_code))
 
     def __reduce__(self) -> typing.NoReturn:
         raise TypeError("an Arrangement cannot be copied or pickled; make another one of the same contours")
@@ -524,7 +463,7 @@ class Arrangement(typing.Generic[Number]):
         straight on."""
         code = _code("rule", rule, RULES)
         with self._lock:
-            self._handle.run("arranged_shapes", code, not collinear)
+            _check(_calls().fadrinzo_arranged_shapes(self._handle, code, not collinear))
             return _shapes(self._handle, self._scale)
 
     @property
@@ -539,14 +478,14 @@ class Arrangement(typing.Generic[Number]):
         """
         # an overlay that keeps nothing has the reach of its arrangement
         with self._lock:
-            self._handle.run("arranged", NOTHING, 0)
+            _check(_calls().fadrinzo_arranged(self._handle, NOTHING, 0))
             return _calls().fadrinzo_get(self._handle).reach
 
     def contours(self, rule: Rule, collinear: bool = True) -> typing.List[Ring[Number]]:
         """The same as contours that have it on their left: outer boundaries counterclockwise, holes clockwise."""
         code = _code("rule", rule, RULES)
         with self._lock:
-            self._handle.run("arranged", code, not collinear)
+            _check(_calls().fadrinzo_arranged(self._handle, code, not collinear))
             return list(_contours(_calls().fadrinzo_get(self._handle), self._scale))
 
 
@@ -567,7 +506,7 @@ def overlay_by_rules(subject: Contours, clip: Contours, rules: typing.Iterable[R
     """
     codes, fill_code = [_code("rule", rule, RULES) for rule in rules], _code("fill", fill, FILLS)
     with _loaded(subject, clip, scale) as handle:
-        handle.run("overlay_by_rules", (ctypes.c_int * len(codes))(*codes), len(codes), fill_code)
+        _check(_calls().fadrinzo_overlay_by_rules(handle, (ctypes.c_int * len(codes))(*codes), len(codes), fill_code))
         return _parts(_calls().fadrinzo_get(handle), scale)
 
 
@@ -619,8 +558,7 @@ def split(segments: typing.Iterable[Segment], rounding: Rounding = "hot-pixels")
     code = _code("rounding", rounding, ROUNDINGS)
     edges = [_edge(segment, f"segment {index}") for index, segment in enumerate(segments)]
     with _owned(_filled(lambda handle: None)) as handle:
-        handle.points = 2 * len(edges)
-        handle.run("split", (_Edge * len(edges))(*edges), len(edges), code)
+        _check(_calls().fadrinzo_split(handle, (_Edge * len(edges))(*edges), len(edges), code))
         found = _calls().fadrinzo_get_edges(handle)
         return [((edge.ax, edge.ay), (edge.bx, edge.by), edge.subject, edge.clip) for edge in found.edges[:found.count]]
 
@@ -643,7 +581,7 @@ def _relation(relation, subject, clip, fill, scale):
     """Whether a relation holds."""
     fill_code, holds = _code("fill", fill, FILLS), ctypes.c_int()
     with _loaded(subject, clip, scale) as handle:
-        handle.run("relation", RELATIONS[relation], fill_code, ctypes.byref(holds))
+        _check(_calls().fadrinzo_relation(handle, RELATIONS[relation], fill_code, ctypes.byref(holds)))
         return bool(holds.value)
 
 
@@ -721,7 +659,7 @@ def relate(subject: Contours, clip: Contours, fill: Fill = "nonzero", scale: typ
     """
     fill_code, letters = _code("fill", fill, FILLS), ctypes.create_string_buffer(10)
     with _loaded(subject, clip, scale) as handle:
-        handle.run("relate", fill_code, letters)
+        _check(_calls().fadrinzo_relate(handle, fill_code, letters))
         return letters.value.decode()
 
 

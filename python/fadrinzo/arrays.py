@@ -16,7 +16,7 @@ import typing
 
 import numpy
 
-from . import FILLS, RULES, Fill, Rule, _calls, _check, _code, _Handle
+from . import FILLS, NO_MEMORY, RULES, Fill, Rule, _calls, _check, _code
 
 if typing.TYPE_CHECKING:
     import numpy.typing
@@ -32,12 +32,17 @@ class Shapes(typing.NamedTuple):
     shape_starts: numpy.typing.NDArray[numpy.uint64]
 
 
-class _Kept(_Handle):
+class _Handle:
     """An overlay of the library, freed with the last reference to it."""
 
+    def __init__(self):
+        self.free, self.at = _calls().fadrinzo_free, _calls().fadrinzo_new()
+        if not self.at:
+            _check(NO_MEMORY)
+
     def __del__(self):
-        if getattr(self, "_as_parameter_", None):
-            self.free()
+        if getattr(self, "at", None):
+            self.free(self.at)
 
 
 def _view(handle, address, count, kind, shape):
@@ -60,19 +65,18 @@ def _add(handle, shape, xy, starts):
         raise ValueError("the starts of contours go up, from 0 to the number of points")
     lengths = numpy.ascontiguousarray(numpy.diff(starts), numpy.uintp)
     points, sizes = xy.ctypes.data_as(ctypes.POINTER(ctypes.c_int32)), lengths.ctypes.data_as(ctypes.POINTER(ctypes.c_size_t))
-    handle.points += len(xy)
-    _check(_calls().fadrinzo_add_contours(handle, shape, points, sizes, len(lengths)))
+    _check(_calls().fadrinzo_add_contours(handle.at, shape, points, sizes, len(lengths)))
 
 
 def overlay_arrays(subject: typing.Tuple[numpy.typing.NDArray[numpy.int32], numpy.typing.ArrayLike],
                    clip: typing.Tuple[numpy.typing.NDArray[numpy.int32], numpy.typing.ArrayLike], rule: Rule, fill: Fill = "nonzero") -> Shapes:
     """The overlay of two pairs of points and starts, as `Shapes`. Rules and fills are those of `overlay`."""
     rule_code, fill_code = _code("rule", rule, RULES), _code("fill", fill, FILLS)
-    handle = _Kept()
+    handle = _Handle()
     for shape, (xy, starts) in enumerate([subject, clip]):
         _add(handle, shape, xy, starts)
-    handle.run("overlay_shapes", rule_code, fill_code)
-    result = _calls().fadrinzo_get(handle)
+    _check(_calls().fadrinzo_overlay_shapes(handle.at, rule_code, fill_code))
+    result = _calls().fadrinzo_get(handle.at)
     return Shapes(
         _view(handle, result.xy, 2 * result.points, numpy.int32, (result.points, 2)),
         _view(handle, result.contour_starts, result.contours + 1, numpy.uint64, (result.contours + 1,)),
