@@ -136,25 +136,49 @@ static fadrinzo_status add_ring(fadrinzo *overlay, int shape, const int32_t *xy,
     return status;
 }
 
-fadrinzo_status fadrinzo_add_polygon(fadrinzo *overlay, int shape, const int32_t *xy, const size_t *lengths, size_t rings)
+/* Adds the contour at an index of many, whose points are in range. */
+typedef fadrinzo_status add_one(fadrinzo *overlay, int shape, const int32_t *xy, size_t points, size_t index);
+
+static fadrinzo_status add_as_given(fadrinzo *overlay, int shape, const int32_t *xy, size_t points, size_t index)
 {
-    if (!overlay || (!lengths && rings) || !is_shape(shape))
+    (void)index;
+    return fadrinzo_add_contour(overlay, shape, xy, points);
+}
+
+static fadrinzo_status add_turned(fadrinzo *overlay, int shape, const int32_t *xy, size_t points, size_t index)
+{
+    return add_ring(overlay, shape, xy, points, index == 0 ? 1 : -1);
+}
+
+static fadrinzo_status add_each(fadrinzo *overlay, int shape, const int32_t *xy, const size_t *lengths, size_t count, add_one *add)
+{
+    if (!overlay || (!lengths && count) || !is_shape(shape))
         return FADRINZO_BAD_ARGUMENT;
     size_t points = 0;
-    for (size_t i = 0; i < rings; i++)
+    for (size_t i = 0; i < count; i++)
         points += lengths[i];
     if (!xy && points)
         return FADRINZO_BAD_ARGUMENT;
     if (!are_in_range(xy, points))
         return FADRINZO_POINT_OUT_OF_RANGE;
     size_t start = 0;
-    for (size_t i = 0; i < rings; i++) {
-        fadrinzo_status status = add_ring(overlay, shape, points ? xy + 2 * start : NULL, lengths[i], i == 0 ? 1 : -1);
+    for (size_t i = 0; i < count; i++) {
+        fadrinzo_status status = add(overlay, shape, points ? xy + 2 * start : NULL, lengths[i], i);
         if (status != FADRINZO_OK)
             return status;
         start += lengths[i];
     }
     return FADRINZO_OK;
+}
+
+fadrinzo_status fadrinzo_add_contours(fadrinzo *overlay, int shape, const int32_t *xy, const size_t *lengths, size_t contours)
+{
+    return add_each(overlay, shape, xy, lengths, contours, add_as_given);
+}
+
+fadrinzo_status fadrinzo_add_polygon(fadrinzo *overlay, int shape, const int32_t *xy, const size_t *lengths, size_t rings)
+{
+    return add_each(overlay, shape, xy, lengths, rings, add_turned);
 }
 
 /* Makes starts of so many lengths, with one element of room behind them. */

@@ -139,6 +139,10 @@ fadrinzo_status fadrinzo_clear(fadrinzo *overlay);
    edges with the same two ends cancel before anything is cut if they run against one another, and cut others if they run alike. */
 fadrinzo_status fadrinzo_add_contour(fadrinzo *overlay, int shape, const int32_t *xy, size_t points);
 
+/* Adds so many contours, as fadrinzo_add_contour adds each: contour i has lengths[i] points, behind those of the contours before it. If a point
+   is out of range nothing is added; if there is no memory the contours before are. */
+fadrinzo_status fadrinzo_add_contours(fadrinzo *overlay, int shape, const int32_t *xy, const size_t *lengths, size_t contours);
+
 /* Adds a polygon of so many rings to the subject or to the clip: ring i has lengths[i] points, behind those of the rings before it. The
    first ring is the outer boundary, and the others are holes. Rings may run either way: the outer boundary is turned counterclockwise
    and each hole clockwise, by the sign of the exact area. A last point that repeats the first is dropped. So holes that lie apart in the

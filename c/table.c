@@ -298,6 +298,39 @@ static void check_middles(void)
     fadrinzo_free(overlay);
 }
 
+/* Contours in one call are those of a call for each, and none is added where a point of the last is out of range. */
+static void check_many_contours(void)
+{
+    fadrinzo *one = fadrinzo_new(), *many = fadrinzo_new();
+    CHECK(one && many, "memory");
+    int32_t xy[2 * POINTS * 6];
+    size_t lengths[3 + 1] = {POINTS, POINTS, POINTS, 0};
+    for (int shape = FADRINZO_SUBJECT; shape <= FADRINZO_CLIP; shape++) {
+        for (size_t i = 0; i < 3; i++) {
+            memcpy(xy + 2 * POINTS * i, squares[3 * (size_t)shape + i].xy, sizeof squares[0].xy);
+            CHECK(fadrinzo_add_contour(one, shape, squares[3 * (size_t)shape + i].xy, POINTS) == FADRINZO_OK, "contour %zu", i);
+        }
+        CHECK(fadrinzo_add_contours(many, shape, xy, lengths, 4) == FADRINZO_OK, "shape %d", shape);
+    }
+    CHECK(fadrinzo_add_contours(many, 0, NULL, NULL, 0) == FADRINZO_OK && fadrinzo_add_contours(many, 0, NULL, lengths + 3, 1) == FADRINZO_OK, "none");
+    xy[2 * POINTS * 3 - 1] = FADRINZO_MAX_COORD + 1;
+    CHECK(fadrinzo_add_contours(many, 0, xy, lengths, 3) == FADRINZO_POINT_OUT_OF_RANGE, "a point out of range");
+    CHECK(fadrinzo_add_contours(many, 2, xy, lengths, 1) == FADRINZO_BAD_ARGUMENT, "shape 2");
+    CHECK(fadrinzo_add_contours(many, 0, NULL, lengths, 1) == FADRINZO_BAD_ARGUMENT, "null");
+    CHECK(fadrinzo_add_contours(many, 0, xy, NULL, 1) == FADRINZO_BAD_ARGUMENT, "null");
+    CHECK(fadrinzo_add_contours(NULL, 0, xy, lengths, 1) == FADRINZO_BAD_ARGUMENT, "null");
+    for (int fill_rule = 0; fill_rule < FILLS; fill_rule++)
+        for (int rule = 0; rule < NAMED; rule++) {
+            CHECK(fadrinzo_overlay(one, rule, fill_rule) == FADRINZO_OK && fadrinzo_overlay(many, rule, fill_rule) == FADRINZO_OK, "rule %d", rule);
+            fadrinzo_result a = fadrinzo_get(one), b = fadrinzo_get(many);
+            CHECK(a.points == b.points && a.contours == b.contours, "rule %d, fill %d", rule, fill_rule);
+            CHECK(!memcmp(a.xy, b.xy, 2 * a.points * sizeof *a.xy), "rule %d, fill %d", rule, fill_rule);
+            CHECK(!memcmp(a.contour_starts, b.contour_starts, (a.contours + 1) * sizeof *a.contour_starts), "rule %d, fill %d", rule, fill_rule);
+        }
+    fadrinzo_free(one);
+    fadrinzo_free(many);
+}
+
 /* A polygon with a hole, each of its rings either way and closed or not: the hole is one. */
 static void check_polygons(void)
 {
@@ -648,6 +681,7 @@ int main(void)
     check_reach_of_arrangements();
     check_middles();
     check_polygons();
+    check_many_contours();
     check_relations();
     check_not_exact();
     check_refusals();

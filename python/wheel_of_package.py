@@ -19,7 +19,8 @@ import tempfile
 import zipfile
 
 HERE = pathlib.Path(__file__).resolve().parent
-NAME, VERSION = "fadrinzo", re.search(r'^version = "(.*)"', (HERE / "pyproject.toml").read_text(encoding="utf-8"), re.M)[1]
+NAME = "fadrinzo"
+VERSION = re.search(r'^__version__ = "(.*)"', (HERE / NAME / "__init__.py").read_text(encoding="utf-8"), re.M)[1]
 INFO = f"{NAME}-{VERSION}.dist-info"
 FROM_C = ["fadrinzo.c", "fadrinzo.h", "fadrinzo_exports.h", "heap.c", "fadrinzo.map"]
 TIME = (2020, 1, 1, 0, 0, 0)
@@ -31,6 +32,11 @@ def part(path):
     if not found:
         raise SystemExit(f"{NAME}: there is no {path}: the proved library is there for x86_64-linux")
     return found[0]
+
+
+def modules():
+    """The files of the package, and the one that says that it has type hints."""
+    return [*sorted((HERE / NAME).glob("*.py")), HERE / NAME / "py.typed"]
 
 
 def machine():
@@ -71,7 +77,7 @@ def build_wheel(wheel_directory, config_settings=None, metadata_directory=None):
     """Writes the wheel, and returns its name."""
     with tempfile.TemporaryDirectory() as folder:
         library = shared_library(folder)
-        files = {f"{NAME}/{it.name}": it.read_bytes() for it in sorted((HERE / NAME).glob("*.py"))}
+        files = {f"{NAME}/{it.name}": it.read_bytes() for it in modules()}
         files[f"{NAME}/libfadrinzo.so"] = library.read_bytes()
         wheel_tag = tag(library)
     files[f"{INFO}/METADATA"] = metadata().encode()
@@ -97,7 +103,7 @@ def build_sdist(sdist_directory, config_settings=None):
     """Writes a package of the sources, which has the parts of the repository that the wheel is made of, and returns its name."""
     top = f"{NAME}-{VERSION}"
     files = {it: HERE / it for it in ("pyproject.toml", "wheel_of_package.py", "README.md")}
-    files.update({f"{NAME}/{it.name}": it for it in sorted((HERE / NAME).glob("*.py"))})
+    files.update({f"{NAME}/{it.name}": it for it in modules()})
     files.update({f"c/{it}": part(f"c/{it}") for it in FROM_C})
     files.update({it: part(it) for it in ("LICENSE-MIT", "LICENSE-APACHE", "rust/dist/MANIFEST")})
     texts = sorted(part("rust/dist/MANIFEST").parent.glob("*.s"))

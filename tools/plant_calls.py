@@ -20,7 +20,7 @@ import tempfile
 ROOT = pathlib.Path(__file__).resolve().parent.parent
 ARCHIVE = ROOT / "crates/overlay_c/out/libfadrinzo_exports.a"
 FLAGS = ["-std=c11", "-O1", "-UNDEBUG"]
-C, PYTHON, WKT, RUST = "c/fadrinzo.c", "python/fadrinzo/__init__.py", "python/fadrinzo/wkt.py", "rust/src/"
+C, HEADER, PYTHON, WKT, RUST = "c/fadrinzo.c", "c/fadrinzo.hpp", "python/fadrinzo/__init__.py", "python/fadrinzo/wkt.py", "rust/src/"
 
 
 @dataclasses.dataclass(frozen=True)
@@ -53,6 +53,13 @@ PLANTS = [
     Plant("a relation is that of another code", C, "&settings, (uint8_t)relation, &found);", "&settings, (uint8_t)(relation == 2 ? 1 : relation), &found);"),
     Plant("a refused relation is written", C, "    if (status == FADRINZO_OK)\n        *holds = found;", "    *holds = found;"),
     Plant("a relation without a name is taken", C, "relation <= FADRINZO_DISJOINT", "relation <= FADRINZO_DISJOINT + 1"),
+    Plant("contours of many are turned", C, "lengths, contours, add_as_given);", "lengths, contours, add_turned);"),
+    Plant("wide coordinates are cut", HEADER, "::digits <= 31;", "::digits <= 63;"),
+    Plant("an outer boundary is left out", HEADER, "contours(found, found.shape_starts[i], found", "contours(found, found.shape_starts[i] + 1, found"),
+    Plant("bits of a table are exchanged", HEADER, "2 * subject + 4 * clip", "4 * subject + 2 * clip"),
+    Plant("collinear points stay in shapes for C++", HEADER, "fadrinzo_arranged_shapes(handle(), static_cast<int>(rule), collinear == Collinear::Drop)", "fadrinzo_arranged_shapes(handle(), static_cast<int>(rule), 0)"),
+    Plant("a refused growth is an error as others", HEADER, "if (status == FADRINZO_NO_MEMORY)", "if (false)"),
+    Plant("a status is not thrown", HEADER, "if (status != FADRINZO_OK)", "if (status == FADRINZO_POINT_OUT_OF_RANGE)"),
     Plant("covers and within are exchanged", PYTHON, '"covers": 1, "is-within": 2', '"covers": 2, "is-within": 1'),
     Plant("a shape that crosses itself is no error of its own", PYTHON, "NOT_EXACT = (6, 7)", "NOT_EXACT = ()"),
     Plant("scaled coordinates are floored", PYTHON, "return round(scaled) if", "return int(scaled // 1) if"),
@@ -124,6 +131,13 @@ def passes_c(folder, archive, _):
     return passes(table)
 
 
+def passes_cxx(folder, archive, _):
+    table, calls = f"{folder}/table_cpp", f"{folder}/fadrinzo.o"
+    build("cc", *FLAGS, "-c", "-o", calls, f"{folder}/c/fadrinzo.c")
+    build("c++", "-std=c++17", "-O1", "-o", table, f"{folder}/c/table.cpp", calls, archive)
+    return passes(table)
+
+
 def passes_python(folder, archive, plant):
     library = f"{folder}/libfadrinzo.so"
     if not os.path.exists(library):
@@ -141,7 +155,12 @@ def passes_rust(folder, archive, plant):
     return passes(*words, env=environment, cwd=f"{folder}/rust")
 
 
-LAYERS = {"c": passes_c, "python": passes_python, "rust": passes_rust}
+LAYERS = {"c": passes_c, "c++": passes_cxx, "python": passes_python, "rust": passes_rust}
+
+
+def layer_of(plant):
+    """The layer whose tests have to refuse a body."""
+    return "c++" if plant.file == HEADER else plant.file.split("/")[0]
 
 
 def try_layer(layer, plants, archive):
@@ -166,9 +185,10 @@ def main():
     parser.add_argument("names", nargs="*")
     given = parser.parse_args()
     chosen = [it for it in PLANTS if not given.names or it.name in given.names]
-    layers = {layer: [it for it in chosen if it.file.startswith(f"{layer}/")] for layer in LAYERS}
-    if not shutil.which("cargo") and layers.pop("rust"):
-        print("no wrong body of rust/ was tried: there is no cargo")
+    layers = {layer: [it for it in chosen if layer_of(it) == layer] for layer in LAYERS}
+    for layer, tool in (("rust", "cargo"), ("c++", "c++")):
+        if not shutil.which(tool) and layers.pop(layer):
+            print(f"no wrong body for {layer} was tried: there is no {tool}")
     with concurrent.futures.ThreadPoolExecutor() as pool:
         jobs = [pool.submit(try_layer, layer, plants, given.archive.resolve()) for layer, plants in layers.items() if plants]
         passing = [it for job in jobs for it in job.result()]

@@ -37,6 +37,21 @@ int main()
     return 0;
 }
 """
+OF_CXX = """#include <fadrinzo.hpp>
+#include <iostream>
+
+int main()
+{
+    using namespace fadrinzo;
+    Overlay overlay;
+    overlay.add_contour(ShapeType::Subject, {{0, 0}, {4, 0}, {4, 4}, {0, 4}});
+    overlay.add_contour(ShapeType::Clip, {{2, 2}, {6, 2}, {6, 6}, {2, 6}});
+    for (const Contour &contour : overlay.overlay(OverlayRule::Union, FillRule::NonZero))
+        for (auto [x, y] : contour)
+            std::cout << x << ' ' << y << ' ';
+    std::cout << std::endl;
+}
+"""
 OF_RUST = """use fadrinzo::{square, Error, FillRule, Overlay, OverlayRule};
 fn main() -> Result<(), Error> {
     let mut overlay = Overlay::with_contours(&[square(0, 4)], &[square(2, 6)])?;
@@ -51,7 +66,9 @@ find_package(fadrinzo 0.2 REQUIRED)
 add_executable(user_c user.c)
 add_executable(user_cpp user.cpp)
 set_target_properties(user_cpp PROPERTIES CXX_STANDARD 17 CXX_STANDARD_REQUIRED ON CXX_EXTENSIONS OFF)
-foreach(it user_c user_cpp)
+add_executable(user_hpp user_hpp.cpp)
+target_compile_features(user_hpp PRIVATE cxx_std_17)
+foreach(it user_c user_cpp user_hpp)
     target_compile_options(${it} PRIVATE -Wall -Wextra -Werror)
     target_link_libraries(${it} PRIVATE fadrinzo::fadrinzo)
 endforeach()
@@ -59,6 +76,9 @@ endforeach()
 OF_PYTHON = """from fadrinzo import overlay
 (boundary, holes), = overlay([[(0, 0), (4, 0), (4, 4), (0, 4)]], [[(2, 2), (6, 2), (6, 6), (2, 6)]], "union")
 print(*(number for point in boundary for number in point))
+"""
+OF_VERSION = """import fadrinzo, importlib.metadata, pathlib
+assert fadrinzo.__version__ == importlib.metadata.version("fadrinzo") and pathlib.Path(fadrinzo.__file__).with_name("py.typed").is_file()
 """
 
 
@@ -151,6 +171,10 @@ def c(room):
         words = room.run("pkg-config", "--cflags", "--libs", "fadrinzo").split()
         room.run("cc", *flags, program, "-o", shared, *words, f"-Wl,-rpath,{prefix}/lib")
         expect(room.run(shared))
+        if shutil.which("c++"):
+            header = room.write("user_c/user.cpp", OF_CXX)
+            room.run("c++", "-std=c++17", "-Wall", "-Wextra", "-Werror", header, "-o", shared, *words, f"-Wl,-rpath,{prefix}/lib")
+            expect(room.run(shared))
 
 
 def cmake(room):
@@ -158,12 +182,12 @@ def cmake(room):
         prefix, made, user = (room.folder / f"cmake{kind}/{it}" for it in ("prefix", "made", "user"))
         room.run("cmake", "-S", "c", "-B", made, f"-DBUILD_SHARED_LIBS={kind}", f"-DCMAKE_INSTALL_PREFIX={prefix}", "-DCMAKE_INSTALL_LIBDIR=lib")
         room.run("cmake", "--build", made, "--target", "install")
-        for name, text in [("user.c", OF_C.replace("main()", "main(void)")), ("user.cpp", OF_C), ("CMakeLists.txt", OF_CMAKE)]:
+        for name, text in [("user.c", OF_C.replace("main()", "main(void)")), ("user.cpp", OF_C), ("user_hpp.cpp", OF_CXX), ("CMakeLists.txt", OF_CMAKE)]:
             room.write(f"cmake{kind}/user/{name}", text)
         room.run("cmake", "-S", user, "-B", user / "made", f"-DCMAKE_PREFIX_PATH={prefix}")
         room.run("cmake", "--build", user / "made")
-        expect(room.run(user / "made/user_c"))
-        expect(room.run(user / "made/user_cpp"))
+        for it in ("user_c", "user_cpp", "user_hpp"):
+            expect(room.run(user / "made" / it))
 
 
 def python(room):
@@ -173,6 +197,7 @@ def python(room):
     program = room.write("user_python/user.py", OF_PYTHON)
     room.environment["PYTHONPATH"] = str(packages)
     expect(room.run(sys.executable, program, folder=room.folder / "home"))
+    room.run(sys.executable, "-c", OF_VERSION, folder=room.folder / "home")
     done = room.run(sys.executable, "-m", "fadrinzo", "union", "-", folder=room.folder / "home", given="POLYGON ((0 0, 4 0, 4 4, 0 4))\n")
     expect(done, "MULTIPOLYGON (((0 4, 0 0, 4 0, 4 4, 0 4)))")
     check_wheels(room, pip, program)

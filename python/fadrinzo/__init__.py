@@ -7,16 +7,21 @@
 The library is found beside this file, where `pip install` puts it, else in the folder `c/out` of the repository, or where the variable
 FADRINZO_SO names its file.
 """
+from __future__ import annotations
+
 import collections.abc
 import contextlib
 import ctypes
 import decimal
+import fractions
 import numbers
 import os
 import pathlib
 import threading
+import typing
 import weakref
 
+__version__ = "0.2.0"
 __all__ = ["Arrangement", "MAX_COORD", "MIN_COORD", "NotExactError", "OverlayError", "covers", "interiors_meet", "is_disjoint", "is_within",
            "locate", "overlay", "overlay_by_rules", "overlay_polygons", "relate", "relate_pattern", "same_region", "split",
            "touches"]
@@ -26,13 +31,42 @@ MIN_COORD, MAX_COORD = -(1 << 30), (1 << 30) - 1
 RULES = {"subject": 0, "clip": 1, "intersect": 2, "union": 3, "difference": 4, "inverse-difference": 5, "xor": 6}
 NOTHING = 16  # the table that keeps no point
 FILLS = {"evenodd": 0, "nonzero": 1, "positive": 2, "negative": 3}
-LOCATIONS = ["inside", "boundary", "outside"]
+LOCATIONS: typing.List[Location] = ["inside", "boundary", "outside"]
 RELATIONS = {"interiors-meet": 0, "covers": 1, "is-within": 2, "same-region": 3, "touch": 4, "disjoint": 5}
 ROUNDINGS = {"hot-pixels": 0, "pairwise": 1}
 MAX_COUNT = (1 << 31) - 1
 VERSION = 2
 NO_MEMORY = 1
 NOT_EXACT = (6, 7)  # of the subject, of the clip
+
+# what calls take: numbers of any library, points and contours in any container, and names
+Coordinate = typing.Union[typing.SupportsIndex, typing.SupportsFloat]
+Contour = typing.Iterable[typing.Iterable[Coordinate]]
+Contours = typing.Iterable[Contour]
+Segment = typing.Iterable[typing.Union[typing.Iterable[typing.SupportsIndex], typing.SupportsIndex]]
+Rule = typing.Literal["subject", "clip", "intersect", "union", "difference", "inverse-difference", "xor"]
+Fill = typing.Literal["evenodd", "nonzero", "positive", "negative"]
+Location = typing.Literal["inside", "boundary", "outside"]
+Rounding = typing.Literal["hot-pixels", "pairwise"]
+# and what they return: numbers of the type of the scale, and int without one
+Scale = typing.TypeVar("Scale", float, decimal.Decimal, fractions.Fraction)
+Number = typing.TypeVar("Number", int, float, decimal.Decimal, fractions.Fraction)
+AnyScale = typing.Union[float, decimal.Decimal, fractions.Fraction]
+Ring = typing.List[typing.Tuple[Number, Number]]
+Shape = typing.Tuple[Ring[Number], typing.List[Ring[Number]]]
+Edge = typing.Tuple[typing.Tuple[int, int], typing.Tuple[int, int], int, int]
+
+
+class HasGeometry(typing.Protocol):
+    """A geometry of another library, as those of shapely."""
+
+    @property
+    def __geo_interface__(self) -> typing.Mapping[str, typing.Any]: ...
+
+
+Geometry = typing.Union[HasGeometry, typing.Mapping[str, typing.Any]]
+Polygon = typing.Union[Geometry, typing.Tuple[Contour, typing.Iterable[Contour]], typing.Iterable[Contour]]
+Polygons = typing.Union[Geometry, typing.Iterable[Polygon]]
 
 
 class OverlayError(Exception):
@@ -84,6 +118,7 @@ def _load():
         "new": (handle, []),
         "free": (None, [handle]),
         "add_contour": (number, [handle, number, points, ctypes.c_size_t]),
+        "add_contours": (number, [handle, number, points, ctypes.POINTER(ctypes.c_size_t), ctypes.c_size_t]),
         "add_polygon": (number, [handle, number, points, ctypes.POINTER(ctypes.c_size_t), ctypes.c_size_t]),
         "overlay_shapes": (number, [handle, number, number]),
         "overlay_by_rules": (number, [handle, ctypes.POINTER(number), ctypes.c_size_t, number]),
@@ -338,7 +373,13 @@ def _loaded(subject, clip, scale):
     return _owned(_load_contours(subject, clip, scale))
 
 
-def overlay(subject, clip, rule, fill="nonzero", scale=None):
+@typing.overload
+def overlay(subject: Contours, clip: Contours, rule: Rule, fill: Fill = "nonzero", scale: None = None) -> typing.List[Shape[int]]: ...
+@typing.overload
+def overlay(subject: Contours, clip: Contours, rule: Rule, fill: Fill = "nonzero", *, scale: Scale) -> typing.List[Shape[Scale]]: ...
+@typing.overload
+def overlay(subject: Contours, clip: Contours, rule: Rule, fill: Fill, scale: Scale) -> typing.List[Shape[Scale]]: ...
+def overlay(subject: Contours, clip: Contours, rule: Rule, fill: Fill = "nonzero", scale: typing.Optional[AnyScale] = None) -> typing.Any:
     """The overlay of two lists of contours: a list of shapes, each an outer boundary and the list of its holes.
 
     A contour is a list of points, each x and y, whole numbers from MIN_COORD to MAX_COORD; a last point that repeats the first is
@@ -358,7 +399,13 @@ def overlay(subject, clip, rule, fill="nonzero", scale=None):
         return _shapes(handle, scale)
 
 
-def overlay_polygons(subject, clip, rule, fill="nonzero", scale=None):
+@typing.overload
+def overlay_polygons(subject: Polygons, clip: Polygons, rule: Rule, fill: Fill = "nonzero", scale: None = None) -> typing.List[Shape[int]]: ...
+@typing.overload
+def overlay_polygons(subject: Polygons, clip: Polygons, rule: Rule, fill: Fill = "nonzero", *, scale: Scale) -> typing.List[Shape[Scale]]: ...
+@typing.overload
+def overlay_polygons(subject: Polygons, clip: Polygons, rule: Rule, fill: Fill, scale: Scale) -> typing.List[Shape[Scale]]: ...
+def overlay_polygons(subject: Polygons, clip: Polygons, rule: Rule, fill: Fill = "nonzero", scale: typing.Optional[AnyScale] = None) -> typing.Any:
     """The overlay of two lists of polygons, as `overlay` returns it, whichever way their rings run.
 
     A polygon is a pair of its outer boundary and the list of its holes, as results have them, or the list of its rings, the outer boundary
@@ -378,7 +425,7 @@ def overlay_polygons(subject, clip, rule, fill="nonzero", scale=None):
         return _shapes(handle, scale)
 
 
-class Arrangement:
+class Arrangement(typing.Generic[Number]):
     """Two lists of contours, split once under a fill rule, from which overlays by any rules come.
 
     Arguments and errors are those of `overlay`. Threads may share one: a call waits for that of another thread. It holds memory of the
@@ -393,17 +440,25 @@ class Arrangement:
     []
     """
 
-    def __init__(self, subject, clip, fill="nonzero", scale=None):
+    @typing.overload
+    def __init__(self: Arrangement[int], subject: Contours, clip: Contours, fill: Fill = "nonzero", scale: None = None) -> None: ...
+    @typing.overload
+    def __init__(self: Arrangement[float], subject: Contours, clip: Contours, fill: Fill = "nonzero", scale: float = ...) -> None: ...
+    @typing.overload
+    def __init__(self: Arrangement[decimal.Decimal], subject: Contours, clip: Contours, fill: Fill = "nonzero", scale: decimal.Decimal = ...) -> None: ...
+    @typing.overload
+    def __init__(self: Arrangement[fractions.Fraction], subject: Contours, clip: Contours, fill: Fill = "nonzero", scale: fractions.Fraction = ...) -> None: ...
+    def __init__(self, subject: Contours, clip: Contours, fill: Fill = "nonzero", scale: typing.Optional[AnyScale] = None) -> None:
         fill_code = _code("fill", fill, FILLS)
         self._handle, self._scale = _load_contours(subject, clip, scale), scale
         self._lock = threading.Lock()
         weakref.finalize(self, _calls().fadrinzo_free, self._handle)
         _check(_calls().fadrinzo_arrange(self._handle, fill_code))
 
-    def __reduce__(self):
+    def __reduce__(self) -> typing.NoReturn:
         raise TypeError("an Arrangement cannot be copied or pickled; make another one of the same contours")
 
-    def overlay(self, rule, collinear=True):
+    def overlay(self, rule: Rule, collinear: bool = True) -> typing.List[Shape[Number]]:
         """The overlay by a rule, as `overlay` returns it; if `collinear` is false, without the points at which a contour goes
         straight on."""
         code = _code("rule", rule, RULES)
@@ -412,7 +467,7 @@ class Arrangement:
             return _shapes(self._handle, self._scale)
 
     @property
-    def reach(self):
+    def reach(self) -> int:
         """How far the split moved edges at most, in x and in y, in halves of a unit, which is 1 / scale where there is a `scale`.
 
         It is 0 where no two edges cross at a point without whole coordinates, and at most 1. How given coordinates are rounded is not
@@ -426,7 +481,7 @@ class Arrangement:
             _check(_calls().fadrinzo_arranged(self._handle, NOTHING, 0))
             return _calls().fadrinzo_get(self._handle).reach
 
-    def contours(self, rule, collinear=True):
+    def contours(self, rule: Rule, collinear: bool = True) -> typing.List[Ring[Number]]:
         """The same as contours that have it on their left: outer boundaries counterclockwise, holes clockwise."""
         code = _code("rule", rule, RULES)
         with self._lock:
@@ -434,7 +489,13 @@ class Arrangement:
             return list(_contours(_calls().fadrinzo_get(self._handle), self._scale))
 
 
-def overlay_by_rules(subject, clip, rules, fill="nonzero", scale=None):
+@typing.overload
+def overlay_by_rules(subject: Contours, clip: Contours, rules: typing.Iterable[Rule], fill: Fill = "nonzero", scale: None = None) -> typing.List[typing.List[Ring[int]]]: ...
+@typing.overload
+def overlay_by_rules(subject: Contours, clip: Contours, rules: typing.Iterable[Rule], fill: Fill = "nonzero", *, scale: Scale) -> typing.List[typing.List[Ring[Scale]]]: ...
+@typing.overload
+def overlay_by_rules(subject: Contours, clip: Contours, rules: typing.Iterable[Rule], fill: Fill, scale: Scale) -> typing.List[typing.List[Ring[Scale]]]: ...
+def overlay_by_rules(subject: Contours, clip: Contours, rules: typing.Iterable[Rule], fill: Fill = "nonzero", scale: typing.Optional[AnyScale] = None) -> typing.Any:
     """The overlays of two lists of contours by several rules, of one split: for each rule a list of contours, in the order of the
     rules. Outer boundaries run counterclockwise, and holes clockwise.
 
@@ -477,7 +538,7 @@ def _edge(segment, where):
     return _Edge(ax, ay, bx, by, subject, clip)
 
 
-def split(segments, rounding="hot-pixels"):
+def split(segments: typing.Iterable[Segment], rounding: Rounding = "hot-pixels") -> typing.List[Edge]:
     """Splits segments into a planar arrangement: a list of segments, of which every two share at most a common end.
 
     A segment is a pair of its ends, each x and y, whole numbers from MIN_COORD to MAX_COORD, or its ends and two counts: how often it winds
@@ -502,7 +563,7 @@ def split(segments, rounding="hot-pixels"):
         return [((edge.ax, edge.ay), (edge.bx, edge.by), edge.subject, edge.clip) for edge in found.edges[:found.count]]
 
 
-def locate(contours, point, fill="nonzero", scale=None):
+def locate(contours: Contours, point: typing.Iterable[Coordinate], fill: Fill = "nonzero", scale: typing.Optional[AnyScale] = None) -> Location:
     """Where a point lies with respect to contours, exactly: "boundary" if it lies on a step of one of them, else "inside" or "outside"
     under the fill rule. With a `scale` the point is multiplied by it and rounded, as the contours are.
 
@@ -524,7 +585,7 @@ def _relation(relation, subject, clip, fill, scale):
         return bool(holds.value)
 
 
-def interiors_meet(subject, clip, fill="nonzero", scale=None):
+def interiors_meet(subject: Contours, clip: Contours, fill: Fill = "nonzero", scale: typing.Optional[AnyScale] = None) -> bool:
     """Whether some point is inside both of two lists of contours, exactly: points have any rational coordinates, and nothing is rounded.
 
     Shapes that share parts of their boundaries alone do not meet. Arguments and errors are those of `overlay`. With a `scale` the relation
@@ -541,7 +602,7 @@ def interiors_meet(subject, clip, fill="nonzero", scale=None):
     return _relation("interiors-meet", subject, clip, fill, scale)
 
 
-def covers(subject, clip, fill="nonzero", scale=None):
+def covers(subject: Contours, clip: Contours, fill: Fill = "nonzero", scale: typing.Optional[AnyScale] = None) -> bool:
     """Whether each point inside the clip is inside the subject. Arguments and errors are those of `interiors_meet`.
 
     >>> covers([[(0, 0), (4, 0), (4, 4), (0, 4)]], [[(0, 0), (4, 0), (4, 3)]])
@@ -550,7 +611,7 @@ def covers(subject, clip, fill="nonzero", scale=None):
     return _relation("covers", subject, clip, fill, scale)
 
 
-def is_within(subject, clip, fill="nonzero", scale=None):
+def is_within(subject: Contours, clip: Contours, fill: Fill = "nonzero", scale: typing.Optional[AnyScale] = None) -> bool:
     """Whether each point inside the subject is inside the clip. Arguments and errors are those of `interiors_meet`.
 
     >>> is_within([[(0, 0), (4, 0), (4, 4), (0, 4)]], [[(0, 0), (4, 0), (4, 3)]])
@@ -559,7 +620,7 @@ def is_within(subject, clip, fill="nonzero", scale=None):
     return _relation("is-within", subject, clip, fill, scale)
 
 
-def same_region(subject, clip, fill="nonzero", scale=None):
+def same_region(subject: Contours, clip: Contours, fill: Fill = "nonzero", scale: typing.Optional[AnyScale] = None) -> bool:
     """Whether each point is inside both of two lists of contours, or inside neither. Arguments and errors are those of `interiors_meet`.
 
     >>> same_region([[(0, 0), (4, 0), (4, 4), (0, 4)]], [[(4, 4), (4, 0), (0, 0), (0, 3), (0, 4)]])
@@ -568,7 +629,7 @@ def same_region(subject, clip, fill="nonzero", scale=None):
     return _relation("same-region", subject, clip, fill, scale)
 
 
-def touches(subject, clip, fill="nonzero", scale=None):
+def touches(subject: Contours, clip: Contours, fill: Fill = "nonzero", scale: typing.Optional[AnyScale] = None) -> bool:
     """Whether two lists of contours share a point, inside or on their boundaries, and no point is inside both. Arguments and errors are
     those of `interiors_meet`.
 
@@ -578,7 +639,7 @@ def touches(subject, clip, fill="nonzero", scale=None):
     return _relation("touch", subject, clip, fill, scale)
 
 
-def is_disjoint(subject, clip, fill="nonzero", scale=None):
+def is_disjoint(subject: Contours, clip: Contours, fill: Fill = "nonzero", scale: typing.Optional[AnyScale] = None) -> bool:
     """Whether two lists of contours share no point, neither inside nor on their boundaries. Arguments and errors are those of
     `interiors_meet`.
 
@@ -588,7 +649,7 @@ def is_disjoint(subject, clip, fill="nonzero", scale=None):
     return _relation("disjoint", subject, clip, fill, scale)
 
 
-def relate(subject, clip, fill="nonzero", scale=None):
+def relate(subject: Contours, clip: Contours, fill: Fill = "nonzero", scale: typing.Optional[AnyScale] = None) -> str:
     """Which parts of two lists of contours meet: nine letters, T where some point is in both parts and F where none is, row by row for the
     interior, the boundary and the exterior of the subject, as OGC's matrix without dimensions. Arguments and errors are those of
     `interiors_meet`.
@@ -602,7 +663,7 @@ def relate(subject, clip, fill="nonzero", scale=None):
         return letters.value.decode()
 
 
-def relate_pattern(subject, clip, pattern, fill="nonzero", scale=None):
+def relate_pattern(subject: Contours, clip: Contours, pattern: str, fill: Fill = "nonzero", scale: typing.Optional[AnyScale] = None) -> bool:
     """Whether the letters of `relate` are those of a pattern: T, F, or * for either. Other arguments and errors are those of
     `interiors_meet`; ValueError where the pattern has other letters, as digits of dimensions, or not nine.
 

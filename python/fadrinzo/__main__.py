@@ -4,15 +4,18 @@
 
 Each line of a file is a POLYGON or MULTIPOLYGON with decimals; `-` is the standard input. Prints one MULTIPOLYGON.
 """
+from __future__ import annotations
+
 import argparse
 import sys
+import typing
 import warnings
 
 from . import FILLS, RULES, OverlayError
 from .wkt import overlay_wkt
 
 
-def lines_of(path):
+def lines_of(path: str) -> typing.List[str]:
     """The lines of a file."""
     if path == "-":
         return sys.stdin.read().splitlines()
@@ -20,7 +23,7 @@ def lines_of(path):
         return file.read().splitlines()
 
 
-def main():
+def main() -> None:
     parser = argparse.ArgumentParser(prog="python3 -m fadrinzo", description=__doc__, formatter_class=argparse.RawDescriptionHelpFormatter)
     parser.add_argument("rule", choices=list(RULES))
     parser.add_argument("subject", help="a file of WKT")
@@ -30,7 +33,7 @@ def main():
     warnings.showwarning = lambda message, *_: print(f"{parser.prog}: {message}", file=sys.stderr)
     try:
         sides = [lines_of(path) if path else [] for path in (given.subject, given.clip)]
-        print(overlay_wkt(*sides, given.rule, given.fill, [f"{path}, line" for path in (given.subject, given.clip)]))
+        print(overlay_wkt(sides[0], sides[1], given.rule, given.fill, [f"{path}, line" for path in (given.subject, given.clip)]))
     except MemoryError:
         sys.exit(f"{parser.prog}: there is not enough memory")
     except (OSError, ValueError, OverlayError) as error:

@@ -9,17 +9,27 @@ Contours are given as a pair: an array of 32-bit points, of shape (n, 2), and th
 result has its arrays in the same form. They lie in the memory of the library, which is freed with the last of them, and cannot be
 written.
 """
-import collections
+from __future__ import annotations
+
 import ctypes
+import typing
 
 import numpy
 
-from . import FILLS, NO_MEMORY, RULES, _calls, _check, _code
+from . import FILLS, NO_MEMORY, RULES, Fill, Rule, _calls, _check, _code
+
+if typing.TYPE_CHECKING:
+    import numpy.typing
 
 __all__ = ["Shapes", "overlay_arrays"]
 
-Shapes = collections.namedtuple("Shapes", "xy contour_starts shape_starts")
-Shapes.__doc__ = """Shapes: the points of all contours, where each contour starts, and with which contour each shape starts."""
+
+class Shapes(typing.NamedTuple):
+    """Shapes: the points of all contours, where each contour starts, and with which contour each shape starts."""
+
+    xy: numpy.typing.NDArray[numpy.int32]
+    contour_starts: numpy.typing.NDArray[numpy.uint64]
+    shape_starts: numpy.typing.NDArray[numpy.uint64]
 
 
 class _Handle:
@@ -53,13 +63,13 @@ def _add(handle, shape, xy, starts):
     starts = numpy.asarray(starts, numpy.int64)
     if starts.ndim != 1 or len(starts) < 1 or starts[0] != 0 or starts[-1] != len(xy) or (numpy.diff(starts) < 0).any():
         raise ValueError("the starts of contours go up, from 0 to the number of points")
-    first, add, at = xy.ctypes.data, _calls().fadrinzo_add_contour, ctypes.POINTER(ctypes.c_int32)
-    bounds = starts.tolist()
-    for start, end in zip(bounds, bounds[1:]):
-        _check(add(handle.at, shape, ctypes.cast(first + 8 * start, at), end - start))
+    lengths = numpy.ascontiguousarray(numpy.diff(starts), numpy.uintp)
+    points, sizes = xy.ctypes.data_as(ctypes.POINTER(ctypes.c_int32)), lengths.ctypes.data_as(ctypes.POINTER(ctypes.c_size_t))
+    _check(_calls().fadrinzo_add_contours(handle.at, shape, points, sizes, len(lengths)))
 
 
-def overlay_arrays(subject, clip, rule, fill="nonzero"):
+def overlay_arrays(subject: typing.Tuple[numpy.typing.NDArray[numpy.int32], numpy.typing.ArrayLike],
+                   clip: typing.Tuple[numpy.typing.NDArray[numpy.int32], numpy.typing.ArrayLike], rule: Rule, fill: Fill = "nonzero") -> Shapes:
     """The overlay of two pairs of points and starts, as `Shapes`. Rules and fills are those of `overlay`."""
     rule_code, fill_code = _code("rule", rule, RULES), _code("fill", fill, FILLS)
     handle = _Handle()

@@ -10,11 +10,14 @@ MULTIPOLYGON may be EMPTY. Points have two coordinates: Z and M are refused.
 Coordinates are read as they are written, moved to an origin amid all of them, and multiplied by the greatest power of ten for which
 they are in range: digits behind that are rounded. Where a polygon vanishes so, a WktWarning says which power that is.
 """
+from __future__ import annotations
+
 import decimal
 import re
+import typing
 import warnings
 
-from . import MAX_COORD, overlay
+from . import MAX_COORD, Fill, Rule, overlay
 
 __all__ = ["WktError", "WktWarning", "overlay_wkt", "polygons_of"]
 
@@ -128,7 +131,7 @@ class _Words:
         return [rings for rings in found if rings]
 
 
-def polygons_of(lines, name="line"):
+def polygons_of(lines: typing.Iterable[str], name: str = "line") -> typing.List[typing.List[typing.List[typing.Tuple[decimal.Decimal, decimal.Decimal]]]]:
     """The polygons that the lines write, each a list of rings of decimals. Empty lines are passed over.
 
     Raises WktError, which names the line by `name` and its number from 1, where one is no POLYGON or MULTIPOLYGON.
@@ -175,7 +178,8 @@ def _text(number, origin, digits):
     return text.rstrip("0").rstrip(".") if "." in text else text
 
 
-def overlay_wkt(subject, clip, rule, fill="nonzero", names=("line", "line")):
+def overlay_wkt(subject: typing.Iterable[str], clip: typing.Iterable[str], rule: Rule, fill: Fill = "nonzero",
+                names: typing.Sequence[str] = ("line", "line")) -> str:
     """The overlay of the polygons that two lists of lines write, as the text of one MULTIPOLYGON.
 
     Raises WktError where a line is no POLYGON or MULTIPOLYGON, named by `names` of the subject and of the clip, and what `overlay`
@@ -185,7 +189,8 @@ def overlay_wkt(subject, clip, rule, fill="nonzero", names=("line", "line")):
         context.prec = DIGITS
         sides = [polygons_of(lines, name) for lines, name in zip((subject, clip), names)]
         origin, digits = _grid_of(sides[0] + sides[1])
-        shapes = overlay(*(list(_rings(side, origin, digits)) for side in sides), rule, fill)
+        given = [list(_rings(side, origin, digits)) for side in sides]
+        shapes = overlay(given[0], given[1], rule, fill)
 
         def ring(points):
             closed = [*points, points[0]]
