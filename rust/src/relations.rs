@@ -177,6 +177,7 @@ impl Overlay {
     /// Whether the shapes share a point, inside or on their boundaries, and no point is inside both.
     ///
     /// A point is on the boundary of a shape if there are points inside and outside of it, however near to it.
+    /// Shapes whose bounding boxes share no point are not refused.
     ///
     /// ```
     /// use fadrinzo::{square, FillRule, Overlay};
@@ -191,7 +192,8 @@ impl Overlay {
         self.holds(Code::Touch, fill_rule)
     }
 
-    /// Whether the shapes share no point, neither inside nor on their boundaries.
+    /// Whether the shapes share no point, neither inside nor on their boundaries. Shapes whose bounding boxes share no point are
+    /// not refused.
     ///
     /// ```
     /// use fadrinzo::{square, FillRule, Overlay};

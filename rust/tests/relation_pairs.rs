@@ -6,7 +6,7 @@
 mod common;
 
 use common::Random;
-use fadrinzo::{Error, FillRule, IntPoint, Overlay, Part, ShapeType};
+use fadrinzo::{bounding_box, Error, FillRule, IntPoint, Overlay, Part, ShapeType};
 use std::cmp::Ordering;
 
 type Contours = Vec<Vec<IntPoint>>;
@@ -314,6 +314,15 @@ fn pair(random: &mut Random) -> [Contours; 2] {
     }
 }
 
+/// Whether the boxes of two shapes share a point.
+fn do_boxes_meet(first: &[Vec<IntPoint>], second: &[Vec<IntPoint>]) -> bool {
+    let boxes = [first, second].map(|shape| bounding_box(shape.iter().flatten()));
+    let [Some([low, high]), Some([other_low, other_high])] = boxes else {
+        return false;
+    };
+    low.x <= other_high.x && other_low.x <= high.x && low.y <= other_high.y && other_low.y <= high.y
+}
+
 /// Compares so many pairs. Returns of how many no relation was refused, and how often each held.
 fn compare(seed: u64, pairs: usize) -> (usize, [usize; 6]) {
     let mut random = Random(seed.wrapping_mul(0x9e37_79b9_7f4a_7c15));
@@ -331,7 +340,12 @@ fn compare(seed: u64, pairs: usize) -> (usize, [usize; 6]) {
         let found = RELATIONS.map(|relation| relation(&mut overlay, fill_rule));
         if let Err(error) = found[0] {
             assert!(matches!(error, Error::NotExact(_)), "{error}");
-            assert!(found.iter().all(|it| *it == found[0]), "{subject:?} {clip:?} {fill_rule}");
+            let mut wanted = [Err(error); 6];
+            if !do_boxes_meet(&subject, &clip) {
+                // they touch nowhere, and are apart, however they cross themselves
+                wanted[4..].copy_from_slice(&[Ok(false), Ok(true)]);
+            }
+            assert_eq!(found, wanted, "{subject:?} {clip:?} {fill_rule}");
             continue;
         }
         let by_definition = matrix([&subject, &clip], fill_rule);

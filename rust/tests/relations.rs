@@ -146,6 +146,7 @@ fn shapes_that_cross_themselves_are_named() {
     let bow = [[0.0, 0.0], [1.0, 1.0], [1.0, 0.0], [0.0, 1.0]];
     let adapter = fadrinzo::FloatPointAdapter::with_scale([0.0; 2], [1.0; 2], 1.0).unwrap();
     let mut overlay = FloatOverlay::with_adapter(adapter).unwrap();
+    overlay.add_contour(&[[0.0, 0.0], [1.0, 0.0], [1.0, 1.0], [0.0, 1.0]], ShapeType::Subject).unwrap();
     overlay.add_contour(&bow, ShapeType::Clip).unwrap();
     let refused = Err(FloatError::Overlay(Error::NotExact(ShapeType::Clip)));
     assert_eq!(overlay.interiors_meet(FillRule::EvenOdd), refused);
