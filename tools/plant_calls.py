@@ -68,7 +68,7 @@ PLANTS = [
     Plant("rules are exchanged", PYTHON, '"difference": 4, "inverse-difference": 5', '"difference": 5, "inverse-difference": 4'),
     Plant("the clip is the subject", PYTHON, 'name, contours in [("subject", subject), ("clip", clip)]]', 'name, contours in [("subject", subject), ("clip", subject)]]'),
     Plant("polygons of the clip are the subject's", PYTHON, 'polygons in [("subject", subject), ("clip", clip)]]', 'polygons in [("subject", subject), ("clip", subject)]]', "test_overlay.Polygons"),
-    Plant("inside is the boundary", PYTHON, '["inside", "boundary", "outside"]', '["boundary", "inside", "outside"]'),
+    Plant("inside is the boundary", PYTHON, '= ["inside", "boundary", "outside"]', '= ["boundary", "inside", "outside"]'),
     Plant("a coordinate at the end of the range is refused", PYTHON, "if not MIN_COORD <= number <= MAX_COORD:", "if not MIN_COORD < number < MAX_COORD:"),
     Plant("an arrangement has the reach of the last result", PYTHON, "_check(_calls().fadrinzo_arranged(self._handle, NOTHING, 0))", "pass"),
     Plant("an arrangement has always moved edges", PYTHON, "return _calls().fadrinzo_get(self._handle).reach", "return 1"),
