@@ -1,0 +1,3 @@
+pub mod NumberLists
+pub mod NumberedPieces
+pub mod MadeAgain
