@@ -8,19 +8,19 @@ use Rattle.std.proofs.lemmas.List.{with_items_is, drop-take, take-take, take-app
 use Rattle.std.proofs.Math.Seq.{paste, drop-append_seam, take-add}
 use Rattle.std.proofs.lemmas.Bool.{eqb-true}
 use Rattle.std.proofs.lemmas.List.Edits.{take-paste, length-paste}
-use Rattle.zz_numbers.specs.NumberLists.{IsWhole, numbers_in, named_in, end_of, has_room, written, appended, gathered}
-use Rattle.zz_numbers.specs.declared.lines_along.LinesAlong.{LinesAlong}
-use Rattle.zz_numbers.specs.declared.lines_along.NumberLists.{NumberLists}
+use Rattle.i_overlay.specs.NumberLists.{IsWhole, numbers_in, named_in, end_of, has_room, written, appended, gathered}
+use Rattle.i_overlay.specs.declared.number_lists.NumberList.{NumberList}
+use Rattle.i_overlay.specs.declared.number_lists.NumberLists.{NumberLists}
 
 -- these lines name these numbers, if it has
-abbrev pub Names : NumberLists → LinesAlong → List ℕ → Type 0
+abbrev pub Names : NumberLists → NumberList → List ℕ → Type 0
 Names s d l = IsWhole s → (d.start + d.count ≤ s.used) × (named_in (numbers_in s) d ≡ l)
 
 -- a later table
 pub record Grows (s t : NumberLists) : Type 0 where
   pub whole : IsWhole t → IsWhole s
   pub used : IsWhole t → s.used ≤ t.used
-  pub kept : IsWhole t → (d : LinesAlong) → d.start + d.count ≤ s.used → named_in (numbers_in t) d ≡ named_in (numbers_in s) d
+  pub kept : IsWhole t → (d : NumberList) → d.start + d.count ≤ s.used → named_in (numbers_in t) d ≡ named_in (numbers_in s) d
 
 pub grows_same : (s : NumberLists) → Grows s s
 grows_same s = record { whole = λ w. w; used = λ w. omega arith; kept = λ w d h. refl }
@@ -32,7 +32,7 @@ grows_on s t u a b = record {
   kept = λ w d h. b.kept w d (let k = a.used (b.whole w) in omega arith) ∙ a.kept (b.whole w) d h;
 }
 
-pub names_later : (s t : NumberLists) (d : LinesAlong) (l : List ℕ) → Grows s t → Names s d l → Names t d l
+pub names_later : (s t : NumberLists) (d : NumberList) (l : List ℕ) → Grows s t → Names s d l → Names t d l
 names_later s t d l a n = λ w.
     let here = n (a.whole w) in
     ((let h = here.0 in let k = a.used w in omega arith), a.kept w d here.0 ∙ here.1)
@@ -43,7 +43,7 @@ names_later s t d l a n = λ w.
 part_of : (xs : List ℕ) (start count : ℕ) → take count (drop start xs) ≡ drop start (take (start + count) xs)
 part_of xs start count = sym (drop-take start count xs)
 
-room_parts : (d : LinesAlong) (to room : ℕ) → has_room d to room ≡ true → (end_of d ≤ room) × (to ≤ room) × (d.count ≤ room - to)
+room_parts : (d : NumberList) (to room : ℕ) → has_room d to room ≡ true → (end_of d ≤ room) × (to ≤ room) × (d.count ≤ room - to)
 room_parts d to room h = (grind arith, grind arith, grind arith)
 
 module _ (items : List ℕ) (start n to : ℕ) (there : to + n ≤ length items) (from : n ≤ length (drop start items)) where
@@ -76,10 +76,10 @@ module _ (items : List ℕ) (start n to : ℕ) (there : to + n ≤ length items)
 
 -- ---- a table after a list is copied
 
-copied : LinesAlong → ℕ → List ℕ → List ℕ
+copied : NumberList → ℕ → List ℕ → List ℕ
 copied d to items = copy_within items d.start (end_of d) to
 
-copied_length : (d : LinesAlong) (to : ℕ) (items : List ℕ) → has_room d to (length items) ≡ true → length (copied d to items) ≡ length items
+copied_length : (d : NumberList) (to : ℕ) (items : List ℕ) → has_room d to (length items) ≡ true → length (copied d to items) ≡ length items
 unfolding copied pasted
 copied_length d to items h =
     let parts = room_parts d to (length items) h in
@@ -87,7 +87,7 @@ copied_length d to items h =
     let from : end_of d - d.start ≤ length (drop d.start items) = subst (λ (k : ℕ). end_of d - d.start ≤ k) (sym (length-drop d.start items)) (omega arith) in
     pasted_length items d.start (end_of d - d.start) to (omega arith) from
 
-copied_below : (d : LinesAlong) (to : ℕ) (items : List ℕ) → has_room d to (length items) ≡ true → (e : LinesAlong) → e.start + e.count ≤ to → named_in (copied d to items) e ≡ named_in items e
+copied_below : (d : NumberList) (to : ℕ) (items : List ℕ) → has_room d to (length items) ≡ true → (e : NumberList) → e.start + e.count ≤ to → named_in (copied d to items) e ≡ named_in items e
 unfolding copied pasted
 copied_below d to items h e k =
     let parts = room_parts d to (length items) h in
@@ -95,7 +95,7 @@ copied_below d to items h e k =
     let from : end_of d - d.start ≤ length (drop d.start items) = subst (λ (k : ℕ). end_of d - d.start ≤ k) (sym (length-drop d.start items)) (omega arith) in
     old_part items d.start (end_of d - d.start) to (omega arith) from e.start e.count k
 
-copied_new : (d : LinesAlong) (to : ℕ) (items : List ℕ) → d.start + d.count ≤ to → to + d.count ≤ length items → to < 2 ^ 64 - 1
+copied_new : (d : NumberList) (to : ℕ) (items : List ℕ) → d.start + d.count ≤ to → to + d.count ≤ length items → to < 2 ^ 64 - 1
     → take d.count (drop to (copied d to items)) ≡ named_in items d
 unfolding copied pasted
 copied_new d to items h k l =
@@ -103,10 +103,10 @@ copied_new d to items h k l =
     let from : d.count ≤ length (drop d.start items) = subst (λ (k : ℕ). d.count ≤ k) (sym (length-drop d.start items)) (omega arith) in
     ap (λ (n : ℕ). take d.count (drop to (paste items to (drop d.start items) n))) ends ∙ new_part items d.start d.count to k from
 
-room_there : (d : LinesAlong) (to room : ℕ) → d.start + d.count ≤ to → to + d.count ≤ room → has_room d to room ≡ true
+room_there : (d : NumberList) (to room : ℕ) → d.start + d.count ≤ to → to + d.count ≤ room → has_room d to room ≡ true
 room_there d to room h k = grind arith
 
-written_items : (d : LinesAlong) (to : ℕ) (v : Vec ℕ Global) → (written d to v).items ≡ (if has_room d to (length v.items) then copied d to v.items else v.items)
+written_items : (d : NumberList) (to : ℕ) (v : Vec ℕ Global) → (written d to v).items ≡ (if has_room d to (length v.items) then copied d to v.items else v.items)
 unfolding copied
 written_items d to v = by (has_room d to (length v.items)) refl
   where
@@ -115,10 +115,10 @@ written_items d to v = by (has_room d to (length v.items)) refl
     by false e = refl
 
 -- the numbers after a list is appended
-copied_if : LinesAlong → ℕ → List ℕ → List ℕ
+copied_if : NumberList → ℕ → List ℕ → List ℕ
 copied_if d to items = if has_room d to (length items) then copied d to items else items
 
-empty_if : (d : LinesAlong) (to : ℕ) → copied_if d to [] ≡ []
+empty_if : (d : NumberList) (to : ℕ) → copied_if d to [] ≡ []
 unfolding copied_if
 empty_if d to = by (has_room d to 0) refl
   where
@@ -126,7 +126,7 @@ empty_if d to = by (has_room d to 0) refl
     by true e = nil_from_length (copied d to []) (copied_length d to [] e)
     by false e = refl
 
-numbers_appended : (d : LinesAlong) (s : NumberLists) → numbers_in (appended d s) ≡ copied_if d s.used (numbers_in s)
+numbers_appended : (d : NumberList) (s : NumberLists) → numbers_in (appended d s) ≡ copied_if d s.used (numbers_in s)
 unfolding copied_if
 numbers_appended d s = by s.numbers refl
   where
@@ -136,7 +136,7 @@ numbers_appended d s = by s.numbers refl
 
 -- ---- a list is appended, and two are put together
 
-used_whole : (d : LinesAlong) (s : NumberLists) → length (copied_if d s.used (numbers_in s)) ≡ length (numbers_in s)
+used_whole : (d : NumberList) (s : NumberLists) → length (copied_if d s.used (numbers_in s)) ≡ length (numbers_in s)
 unfolding copied_if
 used_whole d s = by (has_room d s.used (length (numbers_in s))) refl
   where
@@ -144,10 +144,10 @@ used_whole d s = by (has_room d s.used (length (numbers_in s))) refl
     by true e = copied_length d s.used (numbers_in s) e
     by false e = refl
 
-same_room : (d : LinesAlong) (s : NumberLists) → length (numbers_in (appended d s)) ≡ length (numbers_in s)
+same_room : (d : NumberList) (s : NumberLists) → length (numbers_in (appended d s)) ≡ length (numbers_in s)
 same_room d s = ap (λ (l : List ℕ). length l) (numbers_appended d s) ∙ used_whole d s
 
-kept_if : (d : LinesAlong) (s : NumberLists) (e : LinesAlong) → e.start + e.count ≤ s.used → named_in (copied_if d s.used (numbers_in s)) e ≡ named_in (numbers_in s) e
+kept_if : (d : NumberList) (s : NumberLists) (e : NumberList) → e.start + e.count ≤ s.used → named_in (copied_if d s.used (numbers_in s)) e ≡ named_in (numbers_in s) e
 unfolding copied_if
 kept_if d s e h = by (has_room d s.used (length (numbers_in s))) refl
   where
@@ -155,7 +155,7 @@ kept_if d s e h = by (has_room d s.used (length (numbers_in s))) refl
     by true k = copied_below d s.used (numbers_in s) k e h
     by false k = refl
 
-pub appended_grows : (d : LinesAlong) (s : NumberLists) → Grows s (appended d s)
+pub appended_grows : (d : NumberList) (s : NumberLists) → Grows s (appended d s)
 appended_grows d s =
     let room = same_room d s in
     record {
@@ -164,7 +164,7 @@ appended_grows d s =
       kept = λ w e h. ap (λ (l : List ℕ). named_in l e) (numbers_appended d s) ∙ kept_if d s e h;
     }
 
-pub appended_names : (d : LinesAlong) (s : NumberLists) → IsWhole (appended d s) → d.start + d.count ≤ s.used
+pub appended_names : (d : NumberList) (s : NumberLists) → IsWhole (appended d s) → d.start + d.count ≤ s.used
     → named_in (numbers_in (appended d s)) (record { start = s.used; count = d.count }) ≡ named_in (numbers_in s) d
 unfolding copied_if
 appended_names d s w h =
@@ -174,7 +174,7 @@ appended_names d s w h =
     ∙ rw (room_there d s.used (length (numbers_in s)) h there) (copied_new d s.used (numbers_in s) h there (omega arith))
 
 -- what two lists name when put together, and the table then
-pub gathered_grows : (d e : LinesAlong) (s : NumberLists) → Grows s (gathered d e s).1
+pub gathered_grows : (d e : NumberList) (s : NumberLists) → Grows s (gathered d e s).1
 gathered_grows d e s = by (d.count == 0) (e.count == 0) refl refl
   where
     by : (a b : Bool) → (d.count == 0) ≡ a → (e.count == 0) ≡ b → Grows s (gathered d e s).1
@@ -186,10 +186,10 @@ gathered_grows d e s = by (d.count == 0) (e.count == 0) refl refl
 both : (xs : List ℕ) (start c k : ℕ) → take (c + k) (drop start xs) ≡ take c (drop start xs) ++ take k (drop (start + c) xs)
 both xs start c k = take-add c k (drop start xs) ∙ ap (λ (l : List ℕ). take c (drop start xs) ++ take k l) (drop-drop c start xs)
 
-names_none : (xs : List ℕ) (d : LinesAlong) (l : List ℕ) → (d.count == 0) ≡ true → named_in xs d ≡ l → l ≡ []
+names_none : (xs : List ℕ) (d : NumberList) (l : List ℕ) → (d.count == 0) ≡ true → named_in xs d ≡ l → l ≡ []
 names_none xs d l none is = sym is ∙ ap (λ (c : ℕ). take c (drop d.start xs)) (eqb-true d.count 0 none)
 
-pub gathered_names : (d e : LinesAlong) (s : NumberLists) (l m : List ℕ) → Names s d l → Names s e m → Names (gathered d e s).1 (gathered d e s).0 (l ++ m)
+pub gathered_names : (d e : NumberList) (s : NumberLists) (l m : List ℕ) → Names s d l → Names s e m → Names (gathered d e s).1 (gathered d e s).0 (l ++ m)
 gathered_names d e s l m nd ne = by (d.count == 0) (e.count == 0) refl refl
   where
     by : (a b : Bool) → (d.count == 0) ≡ a → (e.count == 0) ≡ b → Names (gathered d e s).1 (gathered d e s).0 (l ++ m)

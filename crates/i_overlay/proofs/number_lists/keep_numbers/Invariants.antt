@@ -1,7 +1,7 @@
 use Rattle.std.proofs.Common.{◌≡◌, take, map, length, flat_map}
 use Rattle.overlay_base.specs.SegmentOf.{data_segments_of}
-use Rattle.zz_numbers.specs.NumberLists.{numbers_in, named_in}
-use Rattle.zz_numbers.proofs.lines_along.keep_numbers.Given as goal
+use Rattle.i_overlay.specs.NumberLists.{numbers_in, named_in}
+use Rattle.i_overlay.proofs.number_lists.keep_numbers.Given as goal
 
 abbrev pub invariant-loop-segment : goal.invariant-loop-segment
 invariant-loop-segment g l =

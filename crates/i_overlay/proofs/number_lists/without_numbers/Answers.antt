@@ -2,8 +2,8 @@ use Rattle.std.proofs.Common.{◌∙◌, ap, refl}
 use Rattle.overlay_geometry.specs.PairOf.{pair_of}
 use Rattle.overlay_base.specs.StringWinding.{string_winding}
 use Rattle.overlay_base.proofs.laws.joins.DataJoins.{bare}
-use Rattle.zz_numbers.proofs.MadeAgain.{made_again}
-use Rattle.zz_numbers.proofs.lines_along.without_numbers.Goals as goal
+use Rattle.i_overlay.proofs.laws.MadeAgain.{made_again}
+use Rattle.i_overlay.proofs.number_lists.without_numbers.Goals as goal
 
 pub returns : goal.returns
 returns g c =

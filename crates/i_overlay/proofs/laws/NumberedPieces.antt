@@ -13,7 +13,7 @@ use Rattle.overlay_intersections.specs.PassMarks.{marks_on}
 use Rattle.overlay_cuts.specs.Path.{path_from, columns_of}
 use Rattle.overlay_cuts.specs.Run.{Settings, placing_of_pass}
 use Rattle.overlay_cuts.specs.DataPass.{data_pieces, data_pieces_of_each, data_cut_by, data_pass_by, data_pass, data_after_passes}
-use Rattle.zz_numbers.specs.Gathered.{gathering}
+use Rattle.i_overlay.specs.LineNumbers.{gathering}
 
 -- Data stands for a list of numbers, given a store, and does so however the store goes on; and hooks gather what it stands for.
 pub record HooksGather {D S : Type 0} (hooks : Hooks D S) (StandsFor : S → D → List ℕ → Type 0) (GoesOn : S → S → Type 0) : Type 0 where

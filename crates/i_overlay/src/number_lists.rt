@@ -1,7 +1,7 @@
 // The numbers of lines, as data of segments: each segment has those of all given lines that run along it. This project's own.
 ghost use Rattle.std.specs.Prelude.{◌≡◌, IfOk, OnOk, IsTrue, map, length, flat_map};
 ghost use Rattle.std.specs.List.{range_with_len};
-ghost use Rattle.zz_numbers.specs.NumberLists.{numbers_in, named_in, IsWhole, numbered, with_index, appended, gathered};
+ghost use Rattle.i_overlay.specs.NumberLists.{numbers_in, named_in, IsWhole, numbered, with_index, appended, gathered};
 ghost use Rattle.overlay_base.specs.SegmentOf.{segment_of, segments_of, data_segment_of, data_segments_of};
 
 
@@ -13,7 +13,7 @@ use std::alloc::{AllocError, Global};
 
 /// The lines that run along a segment: so many numbers, from an index on in a `NumberLists`.
 #[derive(Clone, Copy, Debug, PartialEq, Eq)]
-pub struct LinesAlong {
+pub struct NumberList {
     /// The index of the first number.
     pub start: usize,
     /// How many numbers there are.
@@ -45,7 +45,7 @@ impl NumberLists {
     }
 
     /// The numbers of lines.
-    fn list(&self, lines: LinesAlong) -> &[usize]
+    fn list(&self, lines: NumberList) -> &[usize]
         ensures { result.now ≡ named_in (numbers_in self.now) lines }
     {
         match &self.numbers {
@@ -56,6 +56,11 @@ impl NumberLists {
                 &numbers[start..start + count]
             }
         }
+    }
+
+    /// How much room all lists take.
+    pub fn used(&self) -> usize {
+        self.used
     }
 
     /// Whether there was room for all.
@@ -70,7 +75,7 @@ impl NumberLists {
     }
 
     /// Copies a list behind all others, if there is room.
-    fn append(&mut self, lines: LinesAlong)
+    fn append(&mut self, lines: NumberList)
         ensures { self.new ≡ appended lines self.old }
     {
         if let Some(numbers) = &mut self.numbers {
@@ -80,7 +85,7 @@ impl NumberLists {
     }
 
     /// Appends two lists, and returns both as one.
-    fn gather(&mut self, first: LinesAlong, second: LinesAlong) -> LinesAlong
+    fn gather(&mut self, first: NumberList, second: NumberList) -> NumberList
         ensures answer { result ≡ (gathered first second self.old).0 }
         ensures store { self.new ≡ (gathered first second self.old).1 }
     {
@@ -93,17 +98,17 @@ impl NumberLists {
         let start = self.used;
         self.append(first);
         self.append(second);
-        LinesAlong {
+        NumberList {
             start,
             count: first.count.saturating_add(second.count),
         }
     }
 }
 
-ghost use Rattle.zz_numbers.specs.NumberLists.{written};
+ghost use Rattle.i_overlay.specs.NumberLists.{written};
 
 /// A side of polygons or a step of lines, with the numbers of the lines that run along it.
-pub type NumberedSegment<I> = Segment<ShapeCountString, I, LinesAlong>;
+pub type NumberedSegment<I> = Segment<ShapeCountString, I, NumberList>;
 
 /// The same without numbers.
 pub type StringSegment<I> = Segment<ShapeCountString, I, ()>;
@@ -128,7 +133,7 @@ fn with_number<I: OverlayInt>(segment: &StringSegment<I>, number: usize) -> Numb
     ensures { data_segment_of result ≡ with_index number (segment_of segment.now) }
 {
     let (ends, count) = (segment.x_segment(), segment.count());
-    let lines = LinesAlong {
+    let lines = NumberList {
         start: number,
         count: usize::from(count.clip != 0),
     };
@@ -183,7 +188,7 @@ pub fn keep_numbers<I: OverlayInt>(
 }
 
 /// Copies a list to an index, if there is room for it.
-fn copy_list(numbers: &mut Vec<usize>, lines: LinesAlong, to: usize)
+fn copy_list(numbers: &mut Vec<usize>, lines: NumberList, to: usize)
     ensures { numbers.new ≡ written lines to numbers.old }
 {
     let end = lines.start.saturating_add(lines.count);
@@ -193,7 +198,7 @@ fn copy_list(numbers: &mut Vec<usize>, lines: LinesAlong, to: usize)
     }
 }
 
-impl OverlayEdgeData<ShapeCountString> for LinesAlong {
+impl OverlayEdgeData<ShapeCountString> for NumberList {
     type Store = NumberLists;
 
     ghost reversed_gives = { λ lines store. (lines, store) };
@@ -202,7 +207,7 @@ impl OverlayEdgeData<ShapeCountString> for LinesAlong {
 
     ghost merge_gives = { λ merged store. gathered merged.lhs_data merged.rhs_data store };
 
-    fn reversed(self, _store: &mut NumberLists) -> LinesAlong {
+    fn reversed(self, _store: &mut NumberLists) -> NumberList {
         self
     }
 
@@ -210,14 +215,14 @@ impl OverlayEdgeData<ShapeCountString> for LinesAlong {
         self,
         _at: EdgeDataSplit<I>,
         _store: &mut NumberLists,
-    ) -> (LinesAlong, LinesAlong) {
+    ) -> (NumberList, NumberList) {
         (self, self)
     }
 
     fn merge(
-        merged: EdgeDataMerge<ShapeCountString, LinesAlong>,
+        merged: EdgeDataMerge<ShapeCountString, NumberList>,
         store: &mut NumberLists,
-    ) -> LinesAlong
+    ) -> NumberList
         ensures answer { result ≡ (gathered merged.lhs_data merged.rhs_data store.old).0 }
         ensures store { store.new ≡ (gathered merged.lhs_data merged.rhs_data store.old).1 }
     {

@@ -1,8 +1,8 @@
 use Rattle.std.proofs.Common.{◌∙◌, ap, map, length, flat_map, arith}
 use Rattle.std.proofs.lemmas.List.{take_all}
 use Rattle.overlay_base.specs.SegmentOf.{data_segments_of}
-use Rattle.zz_numbers.specs.NumberLists.{numbers_in, named_in}
-use Rattle.zz_numbers.proofs.lines_along.keep_numbers.Goals as goal
+use Rattle.i_overlay.specs.NumberLists.{numbers_in, named_in}
+use Rattle.i_overlay.proofs.number_lists.keep_numbers.Goals as goal
 
 pub returns-clause-counts : goal.returns-clause-counts
 returns-clause-counts g c =

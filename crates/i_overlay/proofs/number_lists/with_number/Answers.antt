@@ -4,9 +4,9 @@ use Rattle.overlay_geometry.specs.PairOf.{pair_of}
 use Rattle.overlay_base.specs.StringWinding.{string_winding}
 use Rattle.overlay_base.specs.SegmentOf.{count_of}
 use Rattle.overlay_base.specs.declared.segm.string.ShapeCountString.{ShapeCountString}
-use Rattle.zz_numbers.specs.declared.lines_along.LinesAlong.{LinesAlong}
-use Rattle.zz_numbers.proofs.MadeAgain.{made_again}
-use Rattle.zz_numbers.proofs.lines_along.with_number.Goals as goal
+use Rattle.i_overlay.specs.declared.number_lists.NumberList.{NumberList}
+use Rattle.i_overlay.proofs.laws.MadeAgain.{made_again}
+use Rattle.i_overlay.proofs.number_lists.with_number.Goals as goal
 
 one_if : (b : Bool) → bool_byte (not b) ≡ (if b then 0 else 1)
 one_if true = refl
