@@ -12,6 +12,7 @@ use Rattle.overlay_cuts.specs.Laws.{NameNear}
 use Rattle.overlay_snapping.specs.Chains.{AreSnapCuts}
 use Rattle.overlay_snapping.specs.SnapOf.{data_snap}
 use Rattle.i_overlay.specs.Courses.{Course}
+use Rattle.i_overlay.specs.declared.line_numbers.LineNumbers.{LineNumbers}
 
 -- Hooks that gather numbers: a part has those of the whole, and of two segments that are merged the sum has those of both.
 abbrev pub gathering : Hooks (List ℕ) (Unit {0})
@@ -35,11 +36,18 @@ HaveNumbers (by_passes settings) passes given segments = segments ≡ (data_afte
 HaveNumbers by_snapping passes given segments =
     (on : Pair → List Point) → AreSnapCuts (join given) on → segments ≡ (data_snap gathering on (with_numbers given) (tt {0})).0
 
+-- what the readers of numbers return
+abbrev pub line_counts_of : LineNumbers → List ℕ
+line_counts_of lines = lines.counts.items
+
+abbrev pub line_numbers_of : LineNumbers → List ℕ
+line_numbers_of lines = lines.numbers.items
+
 -- For each segment of a list how many given lines run along it, and the indexes of all these, segment by segment.
-pub record TellsLines (course : Course) (given segments : List WholeSegment) (counts numbers : List ℕ) : Type 0 where
+pub record TellsLines (course : Course) (given segments : List WholeSegment) (lines : LineNumbers) : Type 0 where
   -- these are the segments, each with its numbers
   pub numbered : List (DataSegment (List ℕ))
   pub same_segments : without_data numbered ≡ segments
-  pub laid : AreLaid (map (λ s. s.edge_data) numbered) counts numbers
+  pub laid : AreLaid (map (λ s. s.edge_data) numbered) (line_counts_of lines) (line_numbers_of lines)
   -- the numbers are those that the split gathers
   pub gathered : HaveNumbers course.splitting course.passes given numbered

@@ -5,7 +5,7 @@ ghost use Rattle.overlay_base.specs.FaultOf.{OnTooLarge};
 ghost use Rattle.overlay_base.specs.SegmentOf.{segments_of};
 ghost use Rattle.overlay_contours.specs.Splittings.{SumsLeaveRange};
 ghost use Rattle.i_overlay.specs.Headline.{IsSplitBy};
-ghost use Rattle.i_overlay.specs.LineNumbers.{TellsLines};
+ghost use Rattle.i_overlay.specs.LineNumbers.{TellsLines, line_counts_of, line_numbers_of};
 ghost use Rattle.i_overlay.specs.SplitterOf.{splitting_over, course_over, IsSetAsBefore};
 
 use crate::number_lists::{NumberLists, StringSegment, keep_numbers, keep_segments, number_lines};
@@ -37,14 +37,14 @@ impl LineNumbers {
 
     /// How many given lines run along each segment.
     pub fn counts(&self) -> &[usize]
-        ensures { result.now ≡ self.now.counts.items }
+        ensures { result.now ≡ line_counts_of self.now }
     {
         &self.counts
     }
 
     /// The indexes of these lines in the given list, segment by segment.
     pub fn numbers(&self) -> &[usize]
-        ensures { result.now ≡ self.now.numbers.items }
+        ensures { result.now ≡ line_numbers_of self.now }
     {
         &self.numbers
     }
@@ -71,7 +71,7 @@ impl LineNumbers {
             (segments_of segments.old.items) (segments_of segments.new.items)) }
         ensures lines { OnOk result (TellsLines (course_over solver.now splitter.old splitter.new segments.old)
             (segments_of segments.old.items) (segments_of segments.new.items)
-            self.new.counts.items self.new.numbers.items) }
+            self.new) }
         ensures arranged { IsArranged segments.new.items }
         ensures fits { OnOk result (SumsLeaveRange (splitting_over solver.now splitter.old segments.old)
             (segments_of segments.old.items) → ⊥) }
@@ -99,7 +99,7 @@ impl LineNumbers {
             (segments_of segments.old.items) (segments_of segments.new.items)) }
         ensures lines { OnOk result (TellsLines (course_over solver.now splitter.old splitter.new segments.old)
             (segments_of segments.old.items) (segments_of segments.new.items)
-            self.new.counts.items self.new.numbers.items) }
+            self.new) }
         ensures arranged { OnOk result (IsArranged segments.new.items) }
         ensures fits { OnOk result (SumsLeaveRange (splitting_over solver.now splitter.old segments.old)
             (segments_of segments.old.items) → ⊥) }
@@ -132,7 +132,7 @@ impl LineNumbers {
             segments.old) (segments_of segments.old.items) (segments_of segments.new.items)) }
         ensures lines { IfOk result (λ enough. IsTrue enough → TellsLines (course_over solver.now splitter.old splitter.new
             segments.old) (segments_of segments.old.items) (segments_of segments.new.items)
-            self.new.counts.items self.new.numbers.items) }
+            self.new) }
         ensures arranged { IfOk result (λ enough. IsTrue enough → IsArranged segments.new.items) }
         ensures stays { IfOk result (λ enough. IsFalse enough → segments.new ≡ segments.old) }
         ensures fits { OnOk result (SumsLeaveRange (splitting_over solver.now splitter.old segments.old)

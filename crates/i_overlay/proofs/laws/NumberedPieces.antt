@@ -35,7 +35,7 @@ module _ {D S : Type 0} (hooks : Hooks D S) (StandsFor : S → D → List ℕ �
     pub count : x.count ≡ y.count
     pub edge_data : StandsFor s x.edge_data y.edge_data
 
-  pub AreSame : S → List (DataSegment D) → List (DataSegment (List ℕ)) → Type 0
+  unfoldable pub AreSame : S → List (DataSegment D) → List (DataSegment (List ℕ)) → Type 0
   AreSame s [] [] = ⊤
   AreSame s [] (y ∷ ys) = ⊥
   AreSame s (x ∷ xs) [] = ⊥

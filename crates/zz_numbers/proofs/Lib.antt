@@ -1,0 +1,4 @@
+pub mod NumberLists
+pub mod NumberedPieces
+pub mod MadeAgain
+pub mod GatheredNumbers

@@ -1,0 +1,2 @@
+pub mod NumberLists
+pub mod Gathered
