@@ -123,12 +123,12 @@ module _ (given : List WholeSegment) (s : NumberLists) (room : ℕ) (is : number
       → data_segments_of before.items ≡ numbered given → segments_of before.items ≡ given → HasDataOf ghosts (λ t. t ≡ s) splitting passes before after → LeavesStoreBy ghosts splitting passes before s left → IsWhole left
       → HaveNumbers splitting passes given (map (told_by left) (data_segments_of after.items))
   unfolding listing
-  has_numbers (by_passes settings) passes before after left data bare (store, first, made) leaves whole =
-      let made' = made ∙ ap₂ (λ xs t. (data_after_passes listing settings xs t passes).0) data first in
-      let left' = leaves ∙ ap (λ xs. (data_after_passes listing settings xs s passes).1) data in
+  has_numbers (by_passes settings) passes before after left same bare (store, first, made) leaves whole =
+      let made' = made ∙ ap₂ (λ xs t. (data_after_passes listing settings xs t passes).0) same first in
+      let left' = leaves ∙ ap (λ xs. (data_after_passes listing settings xs s passes).1) same in
       ap₂ (λ t xs. map (told_by t) xs) left' made' ∙ by_run settings passes (subst IsWhole left' whole)
-  has_numbers by_snapping passes before after left data bare (store, first, made) leaves whole = λ on cuts.
+  has_numbers by_snapping passes before after left same bare (store, first, made) leaves whole = λ on cuts.
       let cuts' = subst (λ (g : List WholeSegment). AreSnapCuts (join g) on) (sym bare) cuts in
-      let made' = made on cuts' ∙ ap₂ (λ xs t. (data_snap listing on xs t).0) data first in
-      let left' = leaves on cuts' ∙ ap (λ xs. (data_snap listing on xs s).1) data in
+      let made' = made on cuts' ∙ ap₂ (λ xs t. (data_snap listing on xs t).0) same first in
+      let left' = leaves on cuts' ∙ ap (λ xs. (data_snap listing on xs s).1) same in
       ap₂ (λ t xs. map (told_by t) xs) left' made' ∙ by_snap on (subst IsWhole left' whole)

@@ -1,4 +1,0 @@
-pub mod NumberLists
-pub mod NumberedPieces
-pub mod MadeAgain
-pub mod GatheredNumbers

@@ -1,2 +1,0 @@
-pub mod NumberLists
-pub mod Gathered
