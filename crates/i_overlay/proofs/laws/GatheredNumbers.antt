@@ -11,6 +11,8 @@ use Rattle.overlay_base.specs.Join.{join}
 use Rattle.overlay_base.specs.SegmentOf.{segments_of, data_segments_of}
 use Rattle.overlay_base.specs.Segments.{WholeSegment}
 use Rattle.overlay_base.specs.declared.segm.segment.Segment.{Segment}
+use Rattle.overlay_base.specs.declared.segm.string.ShapeCountString.{ShapeCountString}
+use Rattle.overlay_base.proofs.laws.joins.Views.{segments_of-bare}
 use Rattle.overlay_cuts.specs.DataPass.{data_after_passes}
 use Rattle.overlay_snapping.specs.Chains.{AreSnapCuts}
 use Rattle.overlay_snapping.specs.SnapOf.{data_snap}
@@ -77,6 +79,9 @@ bare_from k (x ∷ xs) = ap (λ (l : List WholeSegment). x ∷ l) (bare_from (k 
 pub bare_numbered : (xs : List WholeSegment) → without_data (numbered xs) ≡ xs
 bare_numbered xs = bare_from 0 xs
 
+pub bare_by : {C I : Type 0} {m : _} {w : _} {o : _} {e : _} {p : _} (list : Vec (Segment C I NumberList m w o e p) Global) (given : List WholeSegment) → data_segments_of list.items ≡ numbered given → segments_of list.items ≡ given
+bare_by list given is = segments_of-bare list.items ∙ ap (λ xs. without_data xs) is ∙ bare_numbered given
+
 -- ---- what is left
 
 -- a segment with the numbers that its list names
@@ -95,6 +100,10 @@ told_all s w (x ∷ xs) (y ∷ ys) h =
 pub bare_told : (s : NumberLists) (xs : List (DataSegment NumberList)) → without_data (map (told_by s) xs) ≡ without_data xs
 bare_told s [] = refl
 bare_told s (x ∷ xs) = ap (λ (l : List WholeSegment). record { pair = x.pair; count = x.count } ∷ l) (bare_told s xs)
+
+pub told_numbers : (s : NumberLists) (xs : List (DataSegment NumberList)) → map (λ y. y.edge_data) (map (told_by s) xs) ≡ map (λ x. named_in (numbers_in s) x.edge_data) xs
+told_numbers s [] = refl
+told_numbers s (x ∷ xs) = ap (λ (l : List (List ℕ)). named_in (numbers_in s) x.edge_data ∷ l) (told_numbers s xs)
 
 -- ---- a split
 
@@ -119,7 +128,7 @@ module _ (given : List WholeSegment) (s : NumberLists) (room : ℕ) (is : number
       (same_after listing Names Grows gathers settings (numbered given) (with_numbers given) s passes start).1
 
   -- so the list of code has the numbers that are gathered
-  pub has_numbers : {C I : Type 0} {m : _} {w : _} {o : _} {e : _} {p : _} (splitting : Splitting) (passes : ℕ) (before after : Vec (Segment C I NumberList m w o e p) Global) (left : NumberLists)
+  pub has_numbers : {I : Type 0} {m : _} {w : _} {o : _} {e : _} {p : _} (splitting : Splitting) (passes : ℕ) (before after : Vec (Segment ShapeCountString I NumberList m w o e p) Global) (left : NumberLists)
       → data_segments_of before.items ≡ numbered given → segments_of before.items ≡ given → HasDataOf ghosts (λ t. t ≡ s) splitting passes before after → LeavesStoreBy ghosts splitting passes before s left → IsWhole left
       → HaveNumbers splitting passes given (map (told_by left) (data_segments_of after.items))
   unfolding listing
