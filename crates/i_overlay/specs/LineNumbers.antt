@@ -1,14 +1,13 @@
 -- Which given lines run along each segment that a split leaves.
-use Rattle.std.specs.Prelude.{◌≡◌, ℕ, ◌==◌, Bool, false, not, ◌||◌, List, [], ◌∷◌, ◌++◌, map, if◌then◌else◌, IsTrue, Option, Some, None, slice_get}
-use Rattle.std.specs.List.{enumerate_from, list_all, list_any}
-use Rattle.overlay_geometry.specs.Points.{Point, Pair, pair_eq}
+use Rattle.std.specs.Prelude.{◌≡◌, ℕ, ◌==◌, List, [], ◌∷◌, ◌++◌, map, if◌then◌else◌}
+use Rattle.std.specs.List.{enumerate_from}
+use Rattle.overlay_geometry.specs.Points.{Point, Pair}
 use Rattle.overlay_base.specs.EdgeData.{Hooks, DataSegment, without_data}
 use Rattle.overlay_base.specs.Join.{join}
 use Rattle.overlay_base.specs.Segments.{WholeSegment}
 use Rattle.overlay_build.specs.Laid.{AreLaid}
 use Rattle.overlay_contours.specs.Splittings.{Splitting, by_passes, by_snapping}
 use Rattle.overlay_cuts.specs.DataPass.{data_after_passes}
-use Rattle.overlay_cuts.specs.Laws.{NameNear}
 use Rattle.overlay_snapping.specs.Chains.{AreSnapCuts}
 use Rattle.overlay_snapping.specs.SnapOf.{data_snap}
 use Rattle.i_overlay.specs.Courses.{Course}

@@ -1,5 +1,5 @@
 -- What the hooks of lines do with their table of numbers.
-use Rattle.std.specs.Prelude.{ℕ, ◌+◌, ◌-◌, ◌^◌, ◌<◌, ◌≤◌, ◌==◌, min, map, nat_le, Bool, ◌&&◌, if◌then◌else◌, List, [], length, take, drop, Vec, Option, Some, None}
+use Rattle.std.specs.Prelude.{ℕ, ◌+◌, ◌-◌, ◌^◌, ◌<◌, ◌≤◌, ◌==◌, min, map, nat_le, Bool, ◌&&◌, if◌then◌else◌, List, [], length, take, drop, Vec, Some, None}
 use Rattle.std.specs.Global.{Global}
 use Rattle.std.specs.List.{copy_within, enumerate_from}
 use Rattle.std.specs.Vec.{with_items}

@@ -4,10 +4,9 @@ ghost use Rattle.std.specs.List.{range_with_len};
 ghost use Rattle.i_overlay.specs.NumberLists.{numbers_in, named_in, IsWhole, numbered, with_index, appended, gathered};
 ghost use Rattle.overlay_base.specs.SegmentOf.{segment_of, segments_of, data_segment_of, data_segments_of};
 
-
 use overlay_base::overlay_core::edge_data::{EdgeDataMerge, EdgeDataSplit, OverlayEdgeData};
-use overlay_base::segm::string::ShapeCountString;
 use overlay_base::segm::segment::Segment;
+use overlay_base::segm::string::ShapeCountString;
 use overlay_geometry::num::OverlayInt;
 use std::alloc::{AllocError, Global};
 

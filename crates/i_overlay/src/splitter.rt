@@ -181,7 +181,9 @@ impl<I: OverlayInt> Splitter<I> {
                 Ok(has_changed)
             }
             Rounding::Pairwise => {
-                let has_changed = self.splitter.split_segments_with_store(list, solver, store)?;
+                let has_changed = self
+                    .splitter
+                    .split_segments_with_store(list, solver, store)?;
                 self.passes = self.splitter.passes();
                 self.reach = self.splitter.reach();
                 Ok(has_changed)

@@ -1,5 +1,5 @@
 -- The numbers in the table of a split are those that it gathers of the given lines.
-use Rattle.std.proofs.Common.{◌≡◌, ◌∙◌, ◌==◌, ℕ, ◌+◌, ◌<◌, ◌≤◌, sym, ap, ap₂, subst, refl, arith, Bool, true, false, IsTrue, if◌then◌else◌, List, [], ◌∷◌, map, length, take, drop, get_or}
+use Rattle.std.proofs.Common.{◌≡◌, ◌∙◌, ◌==◌, ℕ, ◌+◌, ◌<◌, ◌≤◌, sym, ap, ap₂, subst, refl, arith, Bool, true, false, if◌then◌else◌, List, [], ◌∷◌, map, length, take, drop, get_or}
 use Rattle.std.specs.Prelude.{Vec}
 use Rattle.std.specs.Global.{Global}
 use Rattle.std.specs.List.{enumerate_from, range_with_len}
@@ -24,7 +24,7 @@ use Rattle.i_overlay.specs.declared.number_lists.NumberList.{NumberList}
 use Rattle.i_overlay.specs.declared.number_lists.NumberLists.{NumberLists}
 use Rattle.i_overlay.specs.contracts.number_lists.NumberListOverlayEdgeDataShapeCountString.TheImpl.{ghosts}
 use Rattle.i_overlay.proofs.laws.NumberLists.{Names, Grows, grows_same, grows_on, names_later, gathered_grows, gathered_names}
-use Rattle.i_overlay.proofs.laws.NumberedPieces.{HooksGather, Same, AreSame, same_join, same_pass_by, same_after}
+use Rattle.i_overlay.proofs.laws.NumberedPieces.{HooksGather, AreSame, same_join, same_pass_by, same_after}
 
 -- ---- the hooks
 

@@ -1,7 +1,7 @@
 -- A segment that is made again, from its ends, its count and its data.
 use Rattle.std.proofs.Common.{◌≡◌, ◌∙◌, true, refl, sym, subst}
 use Rattle.overlay_geometry.specs.Points.{Point, Pair, point_lt, is_ordered}
-use Rattle.overlay_base.specs.EdgeData.{DataSegment, Hooks, data_piece}
+use Rattle.overlay_base.specs.EdgeData.{Hooks, data_piece}
 use Rattle.overlay_base.specs.Windings.{Winding}
 
 made_in_order : {D S : Type 0} (hooks : Hooks D S) (count : Winding) (a b : Point) (edge_data : D) (store : S) → point_lt a b ≡ true

@@ -1,6 +1,6 @@
 -- Lists of numbers in a table that has had room for all: each stays as others are put together behind them.
-use Rattle.std.proofs.Common.{◌≡◌, ◌∙◌, ℕ, ◌+◌, ◌-◌, ◌^◌, ◌<◌, ◌≤◌, ◌==◌, List, [], ◌∷◌, ◌++◌, length, take, drop, Bool, true, false, ◌&&◌, if◌then◌else◌, refl, sym, ap, ap₂, subst, arith}
-use Rattle.std.specs.Prelude.{min, nat_le, Vec, Option, Some, None}
+use Rattle.std.proofs.Common.{◌≡◌, ◌∙◌, ℕ, ◌+◌, ◌-◌, ◌^◌, ◌<◌, ◌≤◌, ◌==◌, List, [], ◌++◌, length, take, drop, Bool, true, false, if◌then◌else◌, refl, sym, ap, ap₂, subst, arith}
+use Rattle.std.specs.Prelude.{min, Vec, Option, Some, None}
 use Rattle.std.specs.Global.{Global}
 use Rattle.std.specs.List.{copy_within}
 use Rattle.std.specs.Vec.{with_items}
@@ -210,9 +210,10 @@ gathered_names d e s l m nd ne = by (d.count == 0) (e.count == 0) refl refl
         let used2 : second.used ≡ s.used + d.count + e.count = omega arith in
         let count : min (d.count + e.count) (2 ^ 64 - 1) ≡ d.count + e.count = omega arith in
         let left : named_in (numbers_in second) (record { start = s.used; count = d.count }) ≡ l =
-            g2.kept w (record { start = s.used; count = d.count }) (omega arith) ∙ appended_names d s w1 n0 ∙ n.1 in
+        g2.kept w (record { start = s.used; count = d.count }) (omega arith) ∙ appended_names d s w1 n0 ∙ n.1 in
         let right : take e.count (drop (s.used + d.count) (numbers_in second)) ≡ m =
-            subst (λ (u : ℕ). take e.count (drop u (numbers_in second)) ≡ m) used1 (appended_names e first w (omega arith) ∙ g1.kept w1 e k0 ∙ k.1) in
-        (omega arith,
+        subst (λ (u : ℕ). take e.count (drop u (numbers_in second)) ≡ m) used1 (appended_names e first w (omega arith) ∙ g1.kept w1 e k0 ∙ k.1) in (
+          omega arith,
           ap (λ (c : ℕ). take c (drop s.used (numbers_in second))) count ∙ both (numbers_in second) s.used d.count e.count
-          ∙ ap₂ (λ (x y : List ℕ). x ++ y) left right)))
+              ∙ ap₂ (λ (x y : List ℕ). x ++ y) left right,
+        )))

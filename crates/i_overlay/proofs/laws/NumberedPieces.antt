@@ -1,11 +1,10 @@
 -- What hooks make of data that stands for lists of numbers stands, at the end, for what is gathered.
-use Rattle.std.proofs.Common.{◌≡◌, ◌∙◌, ◌==◌, sym, ap, ap₂, subst, ℕ, zero, suc, Bool, true, false, IsTrue, List, [], ◌∷◌, ◌++◌, map, filter, take, drop, flat_map, refl}
+use Rattle.std.proofs.Common.{◌≡◌, ◌∙◌, sym, ap, ap₂, subst, ℕ, zero, suc, Bool, true, false, List, [], ◌∷◌, ◌++◌, filter, take, drop, flat_map, refl}
 use Rattle.std.specs.Prelude.{⊤}
-use Rattle.std.specs.declared.cmp.Ordering.{Ordering}
 use Rattle.std.specs.Ordering.{is_lt}
 use Rattle.overlay_geometry.specs.Points.{Point, Pair, point_lt, pair_cmp, pair_eq}
 use Rattle.overlay_geometry.specs.Sorting.{insert_before_ties, stably_sorted}
-use Rattle.overlay_base.specs.Windings.{Winding, add, inverse, is_not_empty}
+use Rattle.overlay_base.specs.Windings.{Winding, add, is_not_empty}
 use Rattle.overlay_base.specs.EdgeData.{DataSegment, SplitCall, MergeCall, Hooks, without_data, data_piece, merged, merge_runs, merge_sorted, data_join}
 use Rattle.overlay_base.specs.Segments.{WholeSegment}
 use Rattle.overlay_intersections.specs.Marks.{Placing}
@@ -179,8 +178,8 @@ module _ {D S : Type 0} (hooks : Hooks D S) (StandsFor : S → D → List ℕ �
   same_here : (marks : Pair → List Point) (x : DataSegment D) (y : DataSegment (List ℕ)) (s : S) → Same s x y
       → GoesOn s (data_pieces hooks x.count x.pair.a (path_from x.pair.a (columns_of (marks x.pair)) x.pair.b) x.pair.b x.edge_data s).1
       × AreSame (data_pieces hooks x.count x.pair.a (path_from x.pair.a (columns_of (marks x.pair)) x.pair.b) x.pair.b x.edge_data s).1
-        (data_pieces hooks x.count x.pair.a (path_from x.pair.a (columns_of (marks x.pair)) x.pair.b) x.pair.b x.edge_data s).0
-        (data_pieces gathering y.count y.pair.a (path_from y.pair.a (columns_of (marks y.pair)) y.pair.b) y.pair.b y.edge_data tt).0
+      (data_pieces hooks x.count x.pair.a (path_from x.pair.a (columns_of (marks x.pair)) x.pair.b) x.pair.b x.edge_data s).0
+      (data_pieces gathering y.count y.pair.a (path_from y.pair.a (columns_of (marks y.pair)) y.pair.b) y.pair.b y.edge_data tt).0
   same_here marks x y s h =
       let made = data_pieces hooks x.count x.pair.a (path_from x.pair.a (columns_of (marks x.pair)) x.pair.b) x.pair.b x.edge_data s in
       let base = same_pieces x.count x.pair.a (path_from x.pair.a (columns_of (marks x.pair)) x.pair.b) x.pair.b x.edge_data y.edge_data s h.edge_data in

@@ -1,4 +1,4 @@
-use Rattle.std.proofs.Common.{◌∙◌, ap, map, length, flat_map, arith}
+use Rattle.std.proofs.Common.{◌∙◌, ap, map, length, flat_map}
 use Rattle.std.proofs.lemmas.List.{take_all}
 use Rattle.overlay_base.specs.SegmentOf.{data_segments_of}
 use Rattle.i_overlay.specs.NumberLists.{numbers_in, named_in}

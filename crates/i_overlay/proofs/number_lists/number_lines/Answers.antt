@@ -1,4 +1,4 @@
-use Rattle.std.proofs.Common.{◌≡◌, ◌∙◌, ◌<◌, ◌≤◌, ◌+◌, ◌++◌, ◌∷◌, [], ℕ, List, length, take, get_or, map, ap, sym, subst, refl, arith}
+use Rattle.std.proofs.Common.{◌≡◌, ◌∙◌, ◌<◌, ◌≤◌, ◌+◌, ◌++◌, ◌∷◌, [], ℕ, List, length, take, get_or, ap, sym, subst, arith}
 use Rattle.std.specs.List.{enumerate_from}
 use Rattle.std.proofs.lemmas.List.{take_all, take_more, length-map, map-append, get_or-map}
 use Rattle.std.proofs.lemmas.List.FromFn.{length-enumerate_from, get_or-enumerate_from}
@@ -18,7 +18,7 @@ numbered_more xs i x h =
     let mapped : i < length (numbered xs) = subst (λ (n : ℕ). i < n) (sym (numbered_length xs)) h in
     let here = ap (λ e. with_index e.0 e.1) (get_or-enumerate_from 0 xs i (0, x) h) in
     let at : get_or (numbered xs) i (with_index 0 x) ≡ with_index i (get_or xs i x) =
-        get_or-map (λ e. with_index e.0 e.1) (enumerate_from 0 xs) i (0, x) (with_index 0 x) listed ∙ here ∙ ap (λ (k : ℕ). with_index k (get_or xs i x)) (omega arith) in
+    get_or-map (λ e. with_index e.0 e.1) (enumerate_from 0 xs) i (0, x) (with_index 0 x) listed ∙ here ∙ ap (λ (k : ℕ). with_index k (get_or xs i x)) (omega arith) in
     take_more (numbered xs) i (with_index 0 x) mapped ∙ ap (λ (s : DataSegment NumberList). take i (numbered xs) ++ s ∷ []) at
 
 pub loop-index-preserved : goal.loop-index-preserved

@@ -1,8 +1,8 @@
-use Rattle.std.proofs.Common.{◌≡◌, ◌∙◌, refl, sym, ap, ap₂, subst, ℕ, IsTrue, List, map, length, flat_map}
+use Rattle.std.proofs.Common.{◌≡◌, ◌∙◌, sym, ap, subst, ℕ, IsTrue, List, map, length, flat_map}
 use Rattle.std.proofs.lemmas.List.{length-map}
 use Rattle.std.proofs.lemmas.List.Folds.{flat_map-map}
 use Rattle.overlay_base.specs.EdgeData.{DataSegment}
-use Rattle.overlay_base.specs.Planar.{is_splittable, is_arranged}
+use Rattle.overlay_base.specs.Planar.{is_splittable}
 use Rattle.overlay_base.specs.SegmentOf.{segment_of, segments_of, data_segments_of}
 use Rattle.overlay_base.specs.Segments.{WholeSegment}
 use Rattle.overlay_base.specs.declared.segm.fault.Fault.{Fault}
@@ -81,7 +81,7 @@ returns-clause-lines g c = λ enough.
       laid = (
         c.in_ok-keep_numbers.ensures.counts ∙ ap (λ xs. map length (map (λ s. named_in (numbers_in left) s.edge_data) xs)) shown ∙ ap (λ ls. map length ls) told,
         c.in_ok-keep_numbers.ensures.numbers ∙ ap (λ xs. flat_map (λ s. named_in (numbers_in left) s.edge_data) xs) shown
-        ∙ sym (flat_map-map (λ (l : List ℕ). l) (λ s. named_in (numbers_in left) s.edge_data) pieces) ∙ ap (λ ls. flat_map (λ l. l) ls) told,
+            ∙ sym (flat_map-map (λ (l : List ℕ). l) (λ s. named_in (numbers_in left) s.edge_data) pieces) ∙ ap (λ ls. flat_map (λ l. l) ls) told,
       );
       gathered = has_numbers given first.lists c.args.room first.ensures.numbers used course.splitting course.passes c.number_lines.new.list after left is bare e.split.edge_data e.store (c.is_whole.ensures c.if-not-is_whole.false);
     }
