@@ -52,8 +52,8 @@ impl LineNumbers {
     /// Splits polygons and lines as the splitter does, and finds which given lines run along each segment that is left.
     ///
     /// The list has to be splittable, as `is_splittable` tests; afterwards it is the arrangement. A segment has the index of
-    /// each given line of which it is a part, where parts that fall on one another are one segment. A line that comes there
-    /// twice is there twice.
+    /// each given line that has it as a part. Parts that fall on one another are one segment, with the indexes of all. A line
+    /// that comes there twice is there twice.
     ///
     /// Where lines overlap more than their number lets expect, the list is split a second time, by the room that the first
     /// split was found to take.

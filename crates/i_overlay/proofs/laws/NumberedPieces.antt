@@ -1,4 +1,4 @@
--- What hooks make of data that stands for lists of numbers stands, at the end, for what is gathered.
+-- Data that means lists of numbers means, after a split, the numbers that are gathered.
 use Rattle.std.proofs.Common.{◌≡◌, ◌∙◌, sym, ap, ap₂, subst, ℕ, zero, suc, Bool, true, false, List, [], ◌∷◌, ◌++◌, filter, take, drop, flat_map, refl}
 use Rattle.std.specs.Prelude.{⊤}
 use Rattle.std.specs.Ordering.{is_lt}
@@ -14,25 +14,25 @@ use Rattle.overlay_cuts.specs.Run.{Settings, placing_of_pass}
 use Rattle.overlay_cuts.specs.DataPass.{data_pieces, data_pieces_of_each, data_cut_by, data_pass_by, data_pass, data_after_passes}
 use Rattle.i_overlay.specs.LineNumbers.{gathering}
 
--- Data stands for a list of numbers, given a store, and does so however the store goes on; and hooks gather what it stands for.
-pub record HooksGather {D S : Type 0} (hooks : Hooks D S) (StandsFor : S → D → List ℕ → Type 0) (GoesOn : S → S → Type 0) : Type 0 where
+-- Data means a list of numbers, given a store, and means it however the store goes on; and hooks gather what data means.
+pub record HooksGather {D S : Type 0} (hooks : Hooks D S) (Means : S → D → List ℕ → Type 0) (GoesOn : S → S → Type 0) : Type 0 where
   pub same : (s : S) → GoesOn s s
   pub on : (s t u : S) → GoesOn s t → GoesOn t u → GoesOn s u
-  pub later : (s t : S) (d : D) (l : List ℕ) → GoesOn s t → StandsFor s d l → StandsFor t d l
-  pub reversed : (d : D) (s : S) (l : List ℕ) → StandsFor s d l → GoesOn s (hooks.reversed d s).1 × StandsFor (hooks.reversed d s).1 (hooks.reversed d s).0 l
-  pub split : (call : SplitCall D) (s : S) (l : List ℕ) → StandsFor s call.edge_data l
-      → GoesOn s (hooks.split call s).1 × StandsFor (hooks.split call s).1 (hooks.split call s).0.0 l × StandsFor (hooks.split call s).1 (hooks.split call s).0.1 l
-  pub merge : (call : MergeCall D) (s : S) (l m : List ℕ) → StandsFor s call.lhs_data l → StandsFor s call.rhs_data m
-      → GoesOn s (hooks.merge call s).1 × StandsFor (hooks.merge call s).1 (hooks.merge call s).0 (l ++ m)
+  pub later : (s t : S) (d : D) (l : List ℕ) → GoesOn s t → Means s d l → Means t d l
+  pub reversed : (d : D) (s : S) (l : List ℕ) → Means s d l → GoesOn s (hooks.reversed d s).1 × Means (hooks.reversed d s).1 (hooks.reversed d s).0 l
+  pub split : (call : SplitCall D) (s : S) (l : List ℕ) → Means s call.edge_data l
+      → GoesOn s (hooks.split call s).1 × Means (hooks.split call s).1 (hooks.split call s).0.0 l × Means (hooks.split call s).1 (hooks.split call s).0.1 l
+  pub merge : (call : MergeCall D) (s : S) (l m : List ℕ) → Means s call.lhs_data l → Means s call.rhs_data m
+      → GoesOn s (hooks.merge call s).1 × Means (hooks.merge call s).1 (hooks.merge call s).0 (l ++ m)
 
-module _ {D S : Type 0} (hooks : Hooks D S) (StandsFor : S → D → List ℕ → Type 0) (GoesOn : S → S → Type 0) (gather : HooksGather hooks StandsFor GoesOn) where
+module _ {D S : Type 0} (hooks : Hooks D S) (Means : S → D → List ℕ → Type 0) (GoesOn : S → S → Type 0) (gather : HooksGather hooks Means GoesOn) where
   -- ---- segments one by one
 
-  -- a segment is another one but for its data, which stands for the other's
+  -- a segment is another one but for its data, which means the other's
   pub record Same (s : S) (x : DataSegment D) (y : DataSegment (List ℕ)) : Type 0 where
     pub pair : x.pair ≡ y.pair
     pub count : x.count ≡ y.count
-    pub edge_data : StandsFor s x.edge_data y.edge_data
+    pub edge_data : Means s x.edge_data y.edge_data
 
   unfoldable pub AreSame : S → List (DataSegment D) → List (DataSegment (List ℕ)) → Type 0
   AreSame s [] [] = ⊤
@@ -102,7 +102,7 @@ module _ {D S : Type 0} (hooks : Hooks D S) (StandsFor : S → D → List ℕ �
 
   -- ---- joins
 
-  same_piece : (count : Winding) (p q : Point) (d : D) (l : List ℕ) (s : S) → StandsFor s d l
+  same_piece : (count : Winding) (p q : Point) (d : D) (l : List ℕ) (s : S) → Means s d l
       → GoesOn s (data_piece hooks count p q d s).1 × Same (data_piece hooks count p q d s).1 (data_piece hooks count p q d s).0 (data_piece gathering count p q l tt).0
   unfolding data_piece
   same_piece count p q d l s h = by (point_lt p q) refl
@@ -153,7 +153,7 @@ module _ {D S : Type 0} (hooks : Hooks D S) (StandsFor : S → D → List ℕ �
 
   -- ---- cuts
 
-  same_pieces : (count : Winding) (p : Point) (points : List Point) (b : Point) (d : D) (l : List ℕ) (s : S) → StandsFor s d l
+  same_pieces : (count : Winding) (p : Point) (points : List Point) (b : Point) (d : D) (l : List ℕ) (s : S) → Means s d l
       → GoesOn s (data_pieces hooks count p points b d s).1 × AreSame (data_pieces hooks count p points b d s).1 (data_pieces hooks count p points b d s).0 (data_pieces gathering count p points b l tt).0
   unfolding data_pieces AreSame
   same_pieces count p [] b d l s h = (gather.same s, tt)

@@ -1,4 +1,4 @@
--- A split with some first store is one with a store of which that holds which holds of the first one.
+-- What holds of the store with which a split begins.
 use Rattle.std.proofs.Common.{◌≡◌, ℕ, sym, subst}
 use Rattle.std.specs.Prelude.{Vec}
 use Rattle.std.specs.Global.{Global}
