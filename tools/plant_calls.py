@@ -91,7 +91,8 @@ PLANTS = [
     Plant("boxes that touch are apart", RUST + "related.rs", "low.x <= other_high.x", "low.x < other_high.x", "related"),
     Plant("regions without area are covered", RUST + "related.rs", "Ok(holds && overlay.interiors_meet(fill_rule)?)", "Ok(holds)", "related"),
     Plant("floats are cut", RUST + "float.rs", "(point[axis] - center[axis]) * scale).round()", "(point[axis] - center[axis]) * scale).trunc()"),
-    Plant("parts are joined where the line left", RUST + "clip.rs", "(is_open || index > 0) &&", "(is_open || index < 9) &&", "clip_lines"),
+    Plant("parts are joined where the line left", RUST + "clip.rs", "open == Some(step.line)", "open.is_some() || index > 0", "clip_lines"),
+    Plant("a part has the number of another line", RUST + "clip.rs", "number - sides, segment", "(number - sides) / 2, segment", "clip_lines"),
     Plant("an engine that was not made is freed", RUST + "ffi.rs", "is_full.then(|| Engine { handle })", "is_full.then_some(Engine { handle })", "memory"),
     Plant("the last shape is left out", RUST + "ffi.rs", "let len = self.sizes().shapes;", "let len = self.sizes().shapes.saturating_sub(1);"),
 ]
