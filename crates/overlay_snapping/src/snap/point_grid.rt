@@ -361,7 +361,11 @@ fn set(list: &mut Vec<u32>, place: usize, number: u32)
 
 /// Whether a segment meets the pixel of a point that is no end of it. Its inner box is given.
 #[inline(always)]
-pub(crate) fn is_met<I: OverlayInt>(segment: &XSegment<I>, inner: &InnerBox, point: IntPoint<I>) -> bool
+pub(crate) fn is_met<I: OverlayInt>(
+    segment: &XSegment<I>,
+    inner: &InnerBox,
+    point: IntPoint<I>,
+) -> bool
     requires in_range { IsPairInRange I.whole I.MIN_COORD I.MAX_COORD segment.now }
     requires inner { IsInnerBox (pair_of I.whole segment.now) inner.now }
     requires point { IsPointInRange I.whole I.MIN_COORD I.MAX_COORD point }

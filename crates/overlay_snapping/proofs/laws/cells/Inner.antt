@@ -91,8 +91,8 @@ from_by_distance u x v y a b c d =
     by_lt_z x u
     (λ less. down_left u x v y (distance u x) (bit_or (distance u x) (distance v y)) less (distance_down u x a b less) l)
     (λ more. by_lt_z y v
-        (λ less. down_right u x v y (distance v y) (bit_or (distance u x) (distance v y)) less (distance_down v y c d less) r)
-        (λ up. both_up u x v y (distance u x) (distance v y) (bit_or (distance u x) (distance v y)) (bit_and (distance u x) (distance v y)) more up (distance_up u x a b more) (distance_up v y c d up) (distance_small u x a b more) (distance_small v y c d up) l r sum))
+    (λ less. down_right u x v y (distance v y) (bit_or (distance u x) (distance v y)) less (distance_down v y c d less) r)
+    (λ up. both_up u x v y (distance u x) (distance v y) (bit_or (distance u x) (distance v y)) (bit_and (distance u x) (distance v y)) more up (distance_up u x a b more) (distance_up v y c d up) (distance_small u x a b more) (distance_small v y c d up) l r sum))
 
 -- ---- the box
 
@@ -133,7 +133,7 @@ inner_by_distances s p f o e a b c d g h =
     let up = between_turned f s.a.y s.b.y p.y e in
     let at_a : point_eq p s.a ≡ (int_eq s.a.x p.x && int_eq (turned f s.a.y) (turned f p.y)) = point_eq-either p s.a ∙ ap (λ (q : Bool). int_eq s.a.x p.x && q) (sym (eq-turned f s.a.y p.y)) in
     let at_b : point_eq p s.b ≡ (int_eq p.x s.b.x && int_eq (turned f p.y) (turned f s.b.y)) =
-        point_eq-either p s.b ∙ ap₂ (λ (q r : Bool). q && r) (eq-turns s.b.x p.x) (eq-turns s.b.y p.y ∙ sym (eq-turned f p.y s.b.y)) in
+    point_eq-either p s.b ∙ ap₂ (λ (q r : Bool). q && r) (eq-turns s.b.x p.x) (eq-turns s.b.y p.y ∙ sym (eq-turned f p.y s.b.y)) in
     ap₂ (λ (q r : Bool). q && r) (from_by_distance s.a.x p.x (turned f s.a.y) (turned f p.y) a g c h) (from_by_distance p.x s.b.x (turned f p.y) (turned f s.b.y) g b h d)
     ∙ joined (int_le s.a.x p.x) (int_le (turned f s.a.y) (turned f p.y)) (int_eq s.a.x p.x && int_eq (turned f s.a.y) (turned f p.y)) (int_le p.x s.b.x) (int_le (turned f p.y) (turned f s.b.y)) (int_eq p.x s.b.x && int_eq (turned f p.y) (turned f s.b.y))
     ∙ ap₂ (λ (q r : Bool). q && not r) (ap₂ (λ (q r : Bool). q && r) across (sym up)) (ap₂ (λ (q r : Bool). q || r) (sym at_a) (sym at_b))
