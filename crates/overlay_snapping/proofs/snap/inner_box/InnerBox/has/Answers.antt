@@ -1,4 +1,4 @@
-use Rattle.std.proofs.Common.{◌≡◌, ◌∙◌, sym, ap, ap₂, subst, refl, rules, bit_or, ℤ, ◌&&◌, not, Bool, ℕ}
+use Rattle.std.proofs.Common.{◌≡◌, ◌∙◌, ap₂, subst, refl, rules, bit_or}
 use Rattle.std.specs.Prelude.{int_lt}
 use Rattle.std.specs.Int.{w64}
 use Rattle.std.specs.Int.RustNames.{FitsSigned}
