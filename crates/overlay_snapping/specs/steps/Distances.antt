@@ -1,4 +1,4 @@
--- Distances along one axis as unsigned numbers, of which one comparison tests several.
+-- Distances along one axis as unsigned numbers, so that one comparison tests several.
 use Rattle.std.specs.Prelude.{◌<◌, ◌^◌, ◌&&◌, ◌-ℤ◌, ℕ, ℤ, neg_ℤ, unsigned_abs, nat_lt, nat_le, Bool, if◌then◌else◌}
 use Rattle.std.specs.Int.{w64, cast_unsigned}
 

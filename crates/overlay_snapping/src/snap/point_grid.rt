@@ -15,7 +15,7 @@ ghost use Rattle.overlay_snapping.specs.steps.InOrder.{AreInOrder};
 use crate::snap::cells::{CellBox, CellSize};
 use crate::snap::inner_box::InnerBox;
 use crate::snap::ordered_points::{append_met_from, first_not_left, list_in_order};
-use crate::snap::pixel::is_near_line;
+use crate::snap::pixel::{is_end, is_near_line, meets_pixel};
 use overlay_geometry::geom::point::IntPoint;
 use overlay_geometry::geom::x_segment::XSegment;
 use overlay_geometry::num::OverlayInt;
@@ -340,9 +340,8 @@ impl<I: OverlayInt> PointGrid<I> {
         ensures { OnOk result (AddsAllMet (pair_of I.whole segment.now) (points_in self.now)
             (map (point_of I.whole) met.old.items) (map (point_of I.whole) met.new.items)) }
     {
-        let inner = InnerBox::of(segment);
         for point in &self.points {
-            if is_met(segment, &inner, *point) {
+            if is_met_alone(segment, *point) {
                 met.push(*point)?;
             }
         }
@@ -357,6 +356,17 @@ fn set(list: &mut Vec<u32>, place: usize, number: u32)
     if let Some(there) = list.get_mut(place) {
         *there = number;
     }
+}
+
+/// Whether a segment meets the pixel of a point that is no end of it, where the first comparison leaves out nearly all points.
+#[inline(always)]
+fn is_met_alone<I: OverlayInt>(segment: &XSegment<I>, point: IntPoint<I>) -> bool
+    requires in_range { IsPairInRange I.whole I.MIN_COORD I.MAX_COORD segment.now }
+    requires ordered { IsTrue (is_ordered (pair_of I.whole segment.now)) }
+    requires point { IsPointInRange I.whole I.MIN_COORD I.MAX_COORD point }
+    ensures { result ≡ is_met (pair_of I.whole segment.now) (point_of I.whole point) }
+{
+    meets_pixel(segment, point) && !is_end(segment, point)
 }
 
 /// Whether a segment meets the pixel of a point that is no end of it. Its inner box is given.

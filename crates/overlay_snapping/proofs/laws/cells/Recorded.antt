@@ -128,7 +128,7 @@ pub on_both_ok : {T E P Q R : Type 0} (r : Result T E) → (P → Q → R) → O
 on_both_ok (Ok x) f p q = f p q
 on_both_ok (Err e) f p q = tt
 
--- a segment without marks, of which it is recorded that it meets no points
+-- a segment without marks whose part is there and has no points
 pub nothing_recorded : {I : Type 0} (whole : I → ℤ) (s : Pair) (points : List Point) (own : List (LineMark I)) → own ≡ [] → ((c : Point) → Contains [] c ↔ (Contains points c × IsTrue (is_met s c))) → AddsAllMet s points (points_along whole s own) []
 nothing_recorded {I = I} whole s points own none met =
     subst (λ (l : List (LineMark I)). AddsAllMet s points (points_along whole s l) []) (sym none) (record {
