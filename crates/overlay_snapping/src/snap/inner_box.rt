@@ -48,7 +48,8 @@ impl InnerBox {
     #[inline(always)]
     pub(crate) fn has<I: OverlayInt>(&self, point: IntPoint<I>) -> bool
         requires point { IsPointInRange I.whole I.MIN_COORD I.MAX_COORD point }
-        ensures { (s : Pair) → IsInnerBox s self.now → result ≡ (is_in_box s (point_of I.whole point) && not (is_end s (point_of I.whole point))) }
+        ensures { (s : Pair) → IsInnerBox s self.now
+            → result ≡ (is_in_box s (point_of I.whole point) && not (is_end s (point_of I.whole point))) }
     {
         let (x, y) = (point.x.to_wide(), turned(self.falls, point.y.to_wide()));
         are_inside(
