@@ -357,6 +357,30 @@ public:
         return letters;
     }
 
+    /* Prepares the region of the subject that was added for relations to others, and returns its number. It is kept with the overlay. */
+    std::size_t add_region(FillRule fill_rule)
+    {
+        std::size_t number = 0;
+        detail::check(fadrinzo_add_region(handle(), static_cast<int>(fill_rule), &number));
+        return number;
+    }
+
+    /* Whether a relation holds between two regions, by their numbers. Error, with FADRINZO_BAD_ARGUMENT, if there is no such region. */
+    bool region_relation(std::size_t first, std::size_t second, Relation relation) const
+    {
+        int holds = 0;
+        detail::check(fadrinzo_region_relation(handle(), first, second, static_cast<int>(relation), &holds));
+        return holds != 0;
+    }
+
+    /* Which parts of two regions meet, by their numbers, as relate returns it. */
+    std::string region_relate(std::size_t first, std::size_t second) const
+    {
+        char letters[10];
+        detail::check(fadrinzo_region_relate(handle(), first, second, letters));
+        return letters;
+    }
+
     /* Splits segments into a planar arrangement, by their ends in x and then in y. Contours and the result stay. */
     std::vector<Edge> split(const std::vector<Edge> &edges, Rounding rounding = Rounding::SnapRounding)
     {

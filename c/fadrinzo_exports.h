@@ -257,6 +257,22 @@ uint8_t overlay_c_relation(fadrinzo_handle *handle, const fadrinzo_settings *set
    any other code than 0 matrix is unchanged. */
 uint8_t overlay_c_relate(fadrinzo_handle *handle, const fadrinzo_settings *settings, fadrinzo_matrix *matrix);
 
+/* Prepares the region of the subject that was added, under the fill rule of the settings, for relations to others,
+   and keeps it behind those that are kept. Its number is how many were kept before, from 0. The contours that were
+   added stay. Returns 0 where it is done, 1 where memory was refused, 2 where a count left the range, and 6 where
+   two edges of the subject cross at a point without integer coordinates. After any other code than 0 the regions
+   are those that were kept before. */
+uint8_t overlay_c_add_region(fadrinzo_handle *handle, const fadrinzo_settings *settings);
+
+/* Whether a relation holds between two regions that are kept, by their numbers and the code of overlay_c_relation,
+   exactly. Of the settings it takes the strategy. Returns 0 where holds says whether it does, 1 where memory was
+   refused, and 2 where a count left the range. After any other code than 0 holds is unchanged. */
+uint8_t overlay_c_region_relation(fadrinzo_handle *handle, const fadrinzo_settings *settings, size_t first, size_t second, uint8_t code, bool *holds);
+
+/* Which parts of two regions that are kept meet, by their numbers, exactly, as overlay_c_relate returns it. Returns
+   as overlay_c_region_relation does; after any other code than 0 matrix is unchanged. */
+uint8_t overlay_c_region_relate(fadrinzo_handle *handle, const fadrinzo_settings *settings, size_t first, size_t second, fadrinzo_matrix *matrix);
+
 /* What the last overlay of contours, in shapes or not, reports of its run: how many passes it made, and how far
    these moved edges. What such an overlay leaves holds at every place that is farther than this from the edges of
    the contours that it was given. Both are 0 at first, and nothing is promised of them after an overlay that was

@@ -444,6 +444,36 @@ static void check_matrix(fadrinzo *overlay, int fill_rule)
     CHECK(!strcmp(found, wanted), "fill %d: %s, not %s", fill_rule, found, wanted);
 }
 
+/* Prepares the region of the given contours of a shape, and drops the contours. Returns its number. */
+static size_t region_of_given(fadrinzo *overlay, int shape, int fill_rule)
+{
+    size_t number = SIZE_MAX;
+    for (size_t i = 0; i < given_count; i++)
+        if (given[i].shape == shape)
+            CHECK(fadrinzo_add_contour(overlay, FADRINZO_SUBJECT, given[i].xy, given[i].points) == FADRINZO_OK, "contour %zu", i);
+    CHECK(fadrinzo_add_region(overlay, fill_rule, &number) == FADRINZO_OK, "fill %d", fill_rule);
+    fadrinzo_clear(overlay);
+    return number;
+}
+
+/* Each relation of the regions of both shapes is that of the shapes, and so are the letters. */
+static void check_regions(fadrinzo *overlay, int fill_rule)
+{
+    fadrinzo *regions = fadrinzo_new();
+    CHECK(regions, "memory");
+    size_t clip = region_of_given(regions, FADRINZO_CLIP, fill_rule), subject = region_of_given(regions, FADRINZO_SUBJECT, fill_rule);
+    CHECK(clip == 0 && subject == 1, "numbers %zu and %zu", clip, subject);
+    for (int relation = 0; relation < RELATIONS; relation++) {
+        int found = -1, wanted = relation_of_given(relation, fill_rule);
+        CHECK(fadrinzo_region_relation(regions, subject, clip, relation, &found) == FADRINZO_OK, "relation %d", relation);
+        CHECK(found == wanted, "relation %d, fill %d", relation, fill_rule);
+    }
+    char wanted[10] = "", letters[10] = "unchanged";
+    CHECK(fadrinzo_relate(overlay, fill_rule, wanted) == FADRINZO_OK && fadrinzo_region_relate(regions, subject, clip, letters) == FADRINZO_OK, "letters");
+    CHECK(!strcmp(letters, wanted), "fill %d: %s, not %s", fill_rule, letters, wanted);
+    fadrinzo_free(regions);
+}
+
 /* All relations of each choice of the nested squares. */
 static void check_relations(void)
 {
@@ -460,6 +490,7 @@ static void check_relations(void)
         add_all(overlay, some, count);
         for (int fill_rule = 0; fill_rule < FILLS; fill_rule++) {
             check_matrix(overlay, fill_rule);
+            check_regions(overlay, fill_rule);
             for (int relation = 0; relation < RELATIONS; relation++) {
                 int found = -1, wanted = relation_of_given(relation, fill_rule);
                 CHECK(fadrinzo_relation(overlay, relation, fill_rule, &found) == FADRINZO_OK, "relation %d", relation);
@@ -488,6 +519,9 @@ static void check_not_exact(void)
             }
             char letters[10] = "unchanged";
             CHECK((int)fadrinzo_relate(overlay, 0, letters) == wanted && !strcmp(letters, "unchanged"), "shape %d", shape);
+            size_t number = 77;
+            int of_region = both || shape == FADRINZO_SUBJECT ? FADRINZO_SUBJECT_NOT_EXACT : FADRINZO_OK;
+            CHECK((int)fadrinzo_add_region(overlay, 0, &number) == of_region && number == (of_region ? 77 : 0), "shape %d", shape);
             fadrinzo_free(overlay);
         }
 }
@@ -530,9 +564,20 @@ static void check_codes(fadrinzo *overlay)
         CHECK(fadrinzo_relation(overlay, wrong_relations[i], 1, &found) == FADRINZO_BAD_ARGUMENT && found == -1, "code %zu", i);
     CHECK(fadrinzo_relation(overlay, 0, 4, &found) == FADRINZO_BAD_ARGUMENT && found == -1, "fill 4");
     CHECK(fadrinzo_relation(overlay, 0, 1, NULL) == FADRINZO_BAD_ARGUMENT, "null");
-    char letters[10];
+    char letters[10] = "unchanged";
     CHECK(fadrinzo_relate(overlay, 1, NULL) == FADRINZO_BAD_ARGUMENT, "null");
     CHECK(fadrinzo_relate(overlay, 4, letters) == FADRINZO_BAD_ARGUMENT && fadrinzo_relate(NULL, 1, letters) == FADRINZO_BAD_ARGUMENT, "fill 4");
+    size_t number = 77;
+    CHECK(fadrinzo_add_region(overlay, 4, &number) == FADRINZO_BAD_ARGUMENT && fadrinzo_add_region(NULL, 1, &number) == FADRINZO_BAD_ARGUMENT, "region");
+    CHECK(fadrinzo_add_region(overlay, 1, NULL) == FADRINZO_BAD_ARGUMENT && number == 77, "null");
+    CHECK(fadrinzo_add_region(overlay, 1, &number) == FADRINZO_OK && number == 0, "a region");
+    for (size_t other = 0; other < 2; other++) {
+        CHECK(fadrinzo_region_relation(overlay, other, 1 - other, 0, &found) == FADRINZO_BAD_ARGUMENT && found == -1, "no region 1");
+        CHECK(fadrinzo_region_relate(overlay, other, 1 - other, letters) == FADRINZO_BAD_ARGUMENT && !strcmp(letters, "unchanged"), "no region 1");
+    }
+    CHECK(fadrinzo_region_relation(overlay, 0, 0, RELATIONS, &found) == FADRINZO_BAD_ARGUMENT && found == -1, "code");
+    CHECK(fadrinzo_region_relation(overlay, 0, 0, 0, NULL) == FADRINZO_BAD_ARGUMENT && fadrinzo_region_relate(overlay, 0, 0, NULL) == FADRINZO_BAD_ARGUMENT, "null");
+    CHECK(fadrinzo_region_relation(NULL, 0, 0, 0, &found) == FADRINZO_BAD_ARGUMENT && fadrinzo_region_relate(NULL, 0, 0, letters) == FADRINZO_BAD_ARGUMENT, "null");
     CHECK(fadrinzo_relation(overlay, 0, 1, &found) == FADRINZO_OK && found == 0 && fadrinzo_get(overlay).contours == 1, "a relation");
     static const int wrong_shapes[] = {-1, 2, 256, 257, INT32_MIN};
     for (size_t i = 0; i < sizeof wrong_shapes / sizeof *wrong_shapes; i++) {

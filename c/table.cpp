@@ -264,6 +264,16 @@ void check_relations()
         for (std::size_t i = 0; i < 6; i++)
             CHECK(overlay.relation(relations[i], FillRule::NonZero) == pair.holds[i]);
         CHECK(overlay.relate(FillRule::NonZero) == pair.letters);
+        Overlay regions;
+        const Contour contours[] = {rectangle(0, 0, 4, 4), pair.clip};
+        for (std::size_t i = 0; i < 2; i++) {
+            regions.add_contour(ShapeType::Subject, contours[i]);
+            CHECK(regions.add_region(FillRule::NonZero) == i);
+            regions.clear();
+        }
+        for (std::size_t i = 0; i < 6; i++)
+            CHECK(regions.region_relation(0, 1, relations[i]) == pair.holds[i]);
+        CHECK(regions.region_relate(0, 1) == pair.letters);
         // under Negative nothing is inside contours that run counterclockwise
         CHECK(!overlay.relation(Relation::InteriorsMeet, FillRule::Negative) && overlay.relation(Relation::SameRegion, FillRule::Negative));
     }
@@ -316,6 +326,9 @@ void check_refusals()
     CHECK(status_of([&] { overlay.locate(ShapeType::Clip, static_cast<FillRule>(66), {1, 1}); }) == FADRINZO_BAD_ARGUMENT);
     CHECK(status_of([&] { overlay.relation(static_cast<Relation>(66), fill_rule); }) == FADRINZO_BAD_ARGUMENT);
     CHECK(status_of([&] { overlay.relate(static_cast<FillRule>(66)); }) == FADRINZO_BAD_ARGUMENT);
+    CHECK(status_of([&] { overlay.add_region(static_cast<FillRule>(66)); }) == FADRINZO_BAD_ARGUMENT);
+    CHECK(status_of([&] { overlay.region_relation(0, 0, Relation::Touch); }) == FADRINZO_BAD_ARGUMENT);
+    CHECK(status_of([&] { overlay.region_relate(0, 0); }) == FADRINZO_BAD_ARGUMENT);
     CHECK(status_of([&] { overlay.split({{{1, 1}, {1, 1}}}); }) == FADRINZO_BAD_ARGUMENT);
     CHECK(status_of([] { detail::check(FADRINZO_NO_MEMORY); }) == FADRINZO_NO_MEMORY);
     CHECK(status_of([] { detail::check(FADRINZO_OK); }) == FADRINZO_OK);

@@ -20,7 +20,8 @@ import tempfile
 ROOT = pathlib.Path(__file__).resolve().parent.parent
 ARCHIVE = ROOT / "crates/overlay_c/out/libfadrinzo_exports.a"
 FLAGS = ["-std=c11", "-O1", "-UNDEBUG"]
-C, HEADER, PYTHON, WKT, RUST = "c/fadrinzo.c", "c/fadrinzo.hpp", "python/fadrinzo/__init__.py", "python/fadrinzo/wkt.py", "rust/src/"
+C, HEADER, PYTHON, WKT, RELATED = "c/fadrinzo.c", "c/fadrinzo.hpp", "python/fadrinzo/__init__.py", "python/fadrinzo/wkt.py", "python/fadrinzo/related.py"
+RUST = "rust/src/"
 
 
 @dataclasses.dataclass(frozen=True)
@@ -53,6 +54,9 @@ PLANTS = [
     Plant("a relation is that of another code", C, "&settings, (uint8_t)relation, &found);", "&settings, (uint8_t)(relation == 2 ? 1 : relation), &found);"),
     Plant("a refused relation is written", C, "    if (status == FADRINZO_OK)\n        *holds = found;", "    *holds = found;"),
     Plant("a relation without a name is taken", C, "relation <= FADRINZO_DISJOINT", "relation <= FADRINZO_DISJOINT + 1"),
+    Plant("a region that is not there is taken", C, "!is_relation(relation) || first >= overlay->regions || second >=", "!is_relation(relation) || first > overlay->regions || second >"),
+    Plant("numbers of regions begin at one", C, "*number = overlay->regions++;", "*number = ++overlay->regions;"),
+    Plant("regions are exchanged", C, "&settings, first, second, (uint8_t)relation", "&settings, second, first, (uint8_t)relation"),
     Plant("contours of many are turned", C, "lengths, contours, add_as_given);", "lengths, contours, add_turned);"),
     Plant("wide coordinates are cut", HEADER, "::digits <= 31;", "::digits <= 63;"),
     Plant("an outer boundary is left out", HEADER, "contours(found, found.shape_starts[i], found", "contours(found, found.shape_starts[i] + 1, found"),
@@ -89,7 +93,10 @@ PLANTS = [
     Plant("rows of the matrix are exchanged", RUST + "relations.rs", "[interior, boundary, exterior]", "[interior, exterior, boundary]", "relations"),
     Plant("the clip is named for the subject", RUST + "relations.rs", "6 => Error::NotExact(ShapeType::Subject)", "6 => Error::NotExact(ShapeType::Clip)", "relations"),
     Plant("boxes that touch are apart", RUST + "related.rs", "low.x <= other_high.x", "low.x < other_high.x", "related"),
-    Plant("regions without area are covered", RUST + "related.rs", "Ok(holds && overlay.interiors_meet(fill_rule)?)", "Ok(holds)", "related"),
+    Plant("regions without area are covered", RUST + "related.rs", "Ok(holds && regions.interiors_meet(first, second)?)", "Ok(holds)", "related"),
+    Plant("a refused clip is named as the subject", RUST + "related.rs", "Error::NotExact(_) => Error::NotExact(ShapeType::Clip)", "Error::NotExact(_) => Error::NotExact(ShapeType::Subject)", "related"),
+    Plant("a region is compared with itself", RUST + "regions.rs", "&settings, [first, second], code as u8", "&settings, [first, first], code as u8", "related"),
+    Plant("boxes that touch are apart in Python", RELATED, "bounds[2] >= west", "bounds[2] > west", "test_related"),
     Plant("floats are cut", RUST + "float.rs", "(point[axis] - center[axis]) * scale).round()", "(point[axis] - center[axis]) * scale).trunc()"),
     Plant("parts are joined where the line left", RUST + "clip.rs", "(is_open || index > 0) &&", "(is_open || index < 9) &&", "clip_lines"),
     Plant("an engine that was not made is freed", RUST + "ffi.rs", "is_full.then(|| Engine { handle })", "is_full.then_some(Engine { handle })", "memory"),

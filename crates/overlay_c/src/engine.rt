@@ -1,5 +1,5 @@
 // The engine behind a handle: what splits and builds, and what overlays contours.
-ghost use Rattle.std.specs.Prelude.{◌≡◌, ◌↔◌, ◌∷◌, ◌++◌, [], true, false, None, IsTrue, IsFalse, IfSome, OnOk, OnErr, IfOk, IfErr, map, length};
+ghost use Rattle.std.specs.Prelude.{◌≡◌, ◌↔◌, ◌<◌, ◌∷◌, ◌++◌, [], true, false, None, IsTrue, IsFalse, IfSome, OnOk, OnErr, IfOk, IfErr, map, length};
 ghost use Rattle.overlay_c.specs.Calls.{KeepsRulesBy, SameResult, HasArrangement, HasNoArrangement, MaySplit, MayNotSplit, MaySplitLines, MayNotSplitLines};
 ghost use Rattle.overlay_c.specs.Status.{OnUnusable, OnTooLarge};
 
@@ -11,6 +11,7 @@ use crate::records::{
     overlay_rules, rounding, solver, words, write_links, write_records,
 };
 use crate::refusal::Refusal;
+use crate::regions::{holds_between, keep_region, matrix_between};
 use crate::relations::{MatrixRecord, Relation, holds, matrix};
 use crate::tags::{Tag, TaggedRecord};
 use crate::width::is_narrow;
@@ -19,10 +20,12 @@ use overlay_base::overlay_core::fill_rule::FillRule;
 use overlay_base::overlay_core::overlay_rule::OverlayRule;
 use overlay_base::segm::shape_type::ShapeType;
 use overlay_contours::arrangement::Arrangement;
+use overlay_contours::fault::ContourFault;
 use overlay_contours::overlay::Overlay;
 use overlay_geometry::geom::point::IntPoint;
 use overlay_geometry::num::OverlayInt;
 use overlay_relations::fault::RelationFault;
+use overlay_relations::region::Region;
 use std::alloc::Global;
 
 /// What is kept from one call to the next.
@@ -40,6 +43,8 @@ pub struct Engine {
     pub points: Vec<IntPoint<i32>>,
     /// The last arrangement of the contours that were given.
     pub arrangement: Option<Arrangement<i32>>,
+    /// Regions that are prepared for relations.
+    pub regions: Vec<Region<i32>>,
     /// How many points each contour of the last overlay of contours has.
     pub contour_lengths: Vec<usize>,
     /// The points of the first such contour, then those of the next, and so on.
@@ -63,6 +68,7 @@ impl Engine {
     ghost use Rattle.overlay_c.specs.Records.{fill_rule_of};
     ghost use Rattle.overlay_c.specs.Matrices.{IsMatrixBy};
     ghost use Rattle.overlay_c.specs.Relations.{Holds, IsRelationRefusal};
+    ghost use Rattle.overlay_c.specs.Regions.{SameRegions, AddsRegion, IsShapeRefusal, HoldsOfRegionsAt, IsMatrixOfRegionsAt, IsRegionsRefusal};
     ghost use Rattle.overlay_c.specs.Arranged.{KeepsArrangement, KeepsArrangedContours, KeepsArrangedShapes, IsArrangedRefusal, SameArrangement, IsReportOf, IsReportOfNothing};
 
     /// An engine, which takes no memory yet.
@@ -74,6 +80,7 @@ impl Engine {
         ensures passes { passes_of result.polygons ≡ 0 }
         ensures reach { reach_of result.polygons ≡ 0 }
         ensures arrangement { result.arrangement ≡ None }
+        ensures regions { result.regions.items ≡ [] }
     {
         Engine {
             wide: Core::new(alloc, snap_limit),
@@ -82,6 +89,7 @@ impl Engine {
             polygons: Overlay::new(alloc),
             points: Vec::new(alloc),
             arrangement: None,
+            regions: Vec::new(alloc),
             contour_lengths: Vec::new(alloc),
             contour_points: Vec::new(alloc),
             shape_lengths: Vec::new(alloc),
@@ -411,6 +419,7 @@ impl Engine {
         ensures report { SameReport self.old self.new }
         ensures arrangement { self.new.arrangement ≡ self.old.arrangement }
         ensures result { SameResult self.old self.new }
+        ensures regions { SameRegions self.old self.new }
     {
         load_points(contour, &mut self.points)?;
         self.polygons.add_contour(&self.points, shape_type)?;
@@ -613,6 +622,60 @@ impl Engine {
         matrix(alloc, &self.polygons, &solver(settings), fill_rule)
     }
 
+    /// Keeps the region of the subject that was added, under the fill rule of the settings, behind those that are kept.
+    pub fn add_region(
+        &mut self,
+        alloc: Global,
+        settings: &SettingsRecord,
+    ) -> Result<(), RelationFault>
+        ensures added { OnOk result (AddsRegion settings.now self.old self.new) }
+        ensures unchanged { OnErr result (SameRegions self.old self.new) }
+        ensures refused { IfErr result (IsShapeRefusal (contours_in self.old Subject)) }
+        ensures contours { self.new.polygons ≡ self.old.polygons }
+        ensures rest { SameSplit self.old self.new }
+        ensures arrangement { self.new.arrangement ≡ self.old.arrangement }
+        ensures result { SameResult self.old self.new }
+    {
+        let contours = self.polygons.contours(ShapeType::Subject);
+        let fill_rule = fill_rule(settings.fill_rule);
+        let region = Region::new(alloc, contours, &solver(settings), fill_rule)?;
+        keep_region(&mut self.regions, region)?;
+        Ok(())
+    }
+
+    /// Whether a relation holds between two regions that are kept, by their numbers.
+    pub fn region_relation(
+        &self,
+        settings: &SettingsRecord,
+        first: usize,
+        second: usize,
+        relation: Relation,
+    ) -> Result<bool, ContourFault>
+        requires first { first < length self.now.regions.items }
+        requires second { second < length self.now.regions.items }
+        ensures holds { IfOk result (λ found. HoldsOfRegionsAt relation first second found self.now) }
+        ensures refused { IfErr result (IsRegionsRefusal first second self.now) }
+    {
+        let (one, other) = (&self.regions[first], &self.regions[second]);
+        holds_between(one, other, relation, &solver(settings))
+    }
+
+    /// Which parts of two regions that are kept meet, by their numbers.
+    pub fn region_matrix(
+        &self,
+        settings: &SettingsRecord,
+        first: usize,
+        second: usize,
+    ) -> Result<MatrixRecord, ContourFault>
+        requires first { first < length self.now.regions.items }
+        requires second { second < length self.now.regions.items }
+        ensures matrix { IfOk result (λ found. IsMatrixOfRegionsAt first second found self.now) }
+        ensures refused { IfErr result (IsRegionsRefusal first second self.now) }
+    {
+        let (one, other) = (&self.regions[first], &self.regions[second]);
+        matrix_between(one, other, &solver(settings))
+    }
+
     /// What the last overlay of contours that was not refused reports of its run.
     pub fn report(&self) -> ReportRecord
         ensures passes { number_by result.passes ≡ passes_of self.now.polygons }
@@ -649,6 +712,7 @@ impl Engine {
         ensures report { SameReport self.old self.new }
         ensures arrangement { self.new.arrangement ≡ self.old.arrangement }
         ensures result { SameResult self.old self.new }
+        ensures regions { SameRegions self.old self.new }
     {
         self.polygons.clear();
     }
