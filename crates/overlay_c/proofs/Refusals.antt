@@ -25,7 +25,7 @@ use Rattle.overlay_c.specs.declared.relations.MatrixRecord.{MatrixRecord}
 use Rattle.overlay_c.specs.declared.relations.Relation.{Relation}
 
 -- of contours in range no point is the first one out of range
-pub none_outside : (least greatest : ℤ) (contours : List (List Point)) (index point : _) → IsTrue (are_in_range least greatest contours) → IsFirstOutside least greatest contours index point → ⊥
+none_outside : (least greatest : ℤ) (contours : List (List Point)) (index point : _) → IsTrue (are_in_range least greatest contours) → IsFirstOutside least greatest contours index point → ⊥
 none_outside least greatest contours index point h first =
     let contour = first.contour in
     let there : Has contours contour = subst (λ (l : List (List Point)). Has l contour) (sym first.contours_are) (Has-append_right first.earlier (contour ∷ first.later) contour (inl refl)) in

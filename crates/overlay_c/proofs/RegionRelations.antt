@@ -5,13 +5,12 @@ use Rattle.std.proofs.lemmas.List.{get_or_default}
 use Rattle.overlay_geometry.specs.Points.{Point}
 use Rattle.overlay_base.specs.declared.segm.fault.Fault.TheVariants.{Memory, CountOutOfRange}
 use Rattle.overlay_base.specs.declared.segm.shape_type.ShapeType.TheVariants.{Subject, Clip}
-use Rattle.overlay_contours.specs.ContourSegments.{are_in_range}
 use Rattle.overlay_contours.specs.Refusals.{CountsLeaveRange}
 use Rattle.overlay_contours.specs.Splittings.{by_snapping}
 use Rattle.overlay_contours.specs.declared.fault.ContourFault.{ContourFault}
 use Rattle.overlay_contours.specs.declared.fault.ContourFault.TheVariants as contour
 use Rattle.overlay_relations.specs.Matrix.{entry}
-use Rattle.overlay_relations.specs.Refusals.{IsOverlayRefusal, IsRegionRefusal}
+use Rattle.overlay_relations.specs.Refusals.{IsOverlayRefusal}
 use Rattle.overlay_relations.specs.Regions.{boundary_of, DecidesMatrix}
 use Rattle.overlay_relations.specs.declared.fault.RelationFault.{RelationFault}
 use Rattle.overlay_relations.specs.declared.fault.RelationFault.TheVariants.{NotExact, Refused}
@@ -24,7 +23,6 @@ use Rattle.overlay_c.specs.Relations.{code_of_fault}
 use Rattle.overlay_c.specs.Status.{refusal_of, status_of}
 use Rattle.overlay_c.specs.declared.relations.MatrixRecord.{MatrixRecord}
 use Rattle.overlay_c.specs.declared.relations.Relation.{Relation}
-use Rattle.overlay_c.proofs.Refusals.{none_outside}
 
 module _ {I : Type 0} {w : _} {o : _} {e : _} {p : _} (first second : Region I w o e p) where
   pub named_holds : (relation named : Relation) → relation ≡ named → (result : Result Bool ContourFault) → IfOk result (HoldsOfRegions named first second) → IfOk result (HoldsOfRegions relation first second)
@@ -41,12 +39,6 @@ module _ {I : Type 0} {w : _} {o : _} {e : _} {p : _} (regions : List (Region I 
   matrix_at m is x y =
       subst (λ (r : Region I w o e p). IsMatrixOfRegions r (get_or regions second y) m) (is_one ∙ get_or_default regions first one x inside)
       (subst (λ (r : Region I w o e p). IsMatrixOfRegions one r m) (is_other ∙ get_or_default regions second other y inside_too) is)
-
--- a region of contours in range is refused for its crossings, its counts or memory
-pub shape_refuses : (least greatest : ℤ) (contours : List (List Point)) → IsTrue (are_in_range least greatest contours) → (fault : RelationFault) → IsRegionRefusal least greatest contours fault → IsShapeRefusal contours fault
-shape_refuses least greatest contours h (NotExact shape_type) r = (r.0, r.2)
-shape_refuses least greatest contours h (Refused (contour.OutOfRange shape_type index point)) r = none_outside least greatest contours index point h r.1
-shape_refuses least greatest contours h (Refused (contour.Refused fault)) r = r.1
 
 -- ---- codes
 
