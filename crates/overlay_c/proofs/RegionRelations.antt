@@ -1,6 +1,6 @@
 -- Relations of regions that are kept, and why a region is refused.
 use Rattle.std.proofs.Common.{◌≡◌, sym, subst, ◌∙◌, ℕ, ◌<◌, List, [], ◌∷◌, length, get_or, Err, arith}
-use Rattle.std.specs.Prelude.{⊤, ℤ, IsTrue, Bool, Result, IfOk}
+use Rattle.std.specs.Prelude.{⊤, Bool, Result, IfOk}
 use Rattle.std.proofs.lemmas.List.{get_or_default}
 use Rattle.overlay_geometry.specs.Points.{Point}
 use Rattle.overlay_base.specs.declared.segm.fault.Fault.TheVariants.{Memory, CountOutOfRange}
