@@ -68,6 +68,10 @@ typedef struct {
 typedef struct {
     size_t segments;
     size_t lines;
+    /* Of how many segments of polygons and lines the last overlay_c_clip_with_numbers left numbers. */
+    size_t line_counts;
+    /* How many numbers of lines they have together. */
+    size_t line_numbers;
     size_t links;
     /* Of how many links there is data. */
     size_t link_data;
@@ -199,6 +203,12 @@ uint8_t overlay_c_join(fadrinzo_handle *handle, const fadrinzo_segment *given, s
    overlay_c_overlay does. */
 uint8_t overlay_c_clip(fadrinzo_handle *handle, const fadrinzo_line *given, size_t given_len, const fadrinzo_settings *settings, bool invert, bool boundary_included);
 
+/* The parts of lines that a clip rule keeps, as of overlay_c_clip, and which of the given lines run along each
+   segment of the arrangement of polygons and lines: overlay_c_line_numbers copies their numbers, the indexes of
+   their records. Links are in the order of the segments. Returns as overlay_c_overlay does; nothing is promised of
+   the numbers after a refusal. */
+uint8_t overlay_c_clip_with_numbers(fadrinzo_handle *handle, const fadrinzo_line *given, size_t given_len, const fadrinzo_settings *settings, bool invert, bool boundary_included);
+
 /* Copies a contour behind the others of the subject, where the shape's code is 0, or else of the clip. Returns 0
    where it is added; else nothing is: 1 where memory was refused, 4 where a point is out of range. */
 uint8_t overlay_c_add_contour(fadrinzo_handle *handle, const fadrinzo_point *contour, size_t contour_len, uint8_t shape);
@@ -301,6 +311,10 @@ void overlay_c_segments(fadrinzo_handle *handle, fadrinzo_segment *out, size_t o
 
 /* Copies the arrangement of polygons and lines out. */
 void overlay_c_lines(fadrinzo_handle *handle, fadrinzo_line *out, size_t out_len);
+
+/* Copies out how many given lines run along each segment of the arrangement of polygons and lines, and the numbers
+   of these lines, segment by segment: those of the last overlay_c_clip_with_numbers. */
+void overlay_c_line_numbers(fadrinzo_handle *handle, size_t *counts, size_t counts_len, size_t *numbers, size_t numbers_len);
 
 /* Copies the links out. */
 void overlay_c_links(fadrinzo_handle *handle, fadrinzo_link *out, size_t out_len);

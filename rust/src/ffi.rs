@@ -32,6 +32,8 @@ pub struct Settings {
 pub struct Sizes {
     pub segments: usize,
     pub lines: usize,
+    pub line_counts: usize,
+    pub line_numbers: usize,
     pub links: usize,
     pub link_data: usize,
     pub nodes: usize,
@@ -124,6 +126,14 @@ extern "C" {
         invert: bool,
         boundary_included: bool,
     ) -> u8;
+    fn overlay_c_clip_with_numbers(
+        handle: &mut Handle,
+        given: *const LineSegment,
+        given_len: usize,
+        settings: &Settings,
+        invert: bool,
+        boundary_included: bool,
+    ) -> u8;
     fn overlay_c_add_contour(handle: &mut Handle, contour: *const IntPoint, contour_len: usize, shape: u8) -> u8;
     fn overlay_c_polygons(handle: &mut Handle, settings: &Settings, rule: u8) -> u8;
     fn overlay_c_shapes(handle: &mut Handle, settings: &Settings, rule: u8) -> u8;
@@ -156,6 +166,13 @@ extern "C" {
     fn overlay_c_sizes(handle: &mut Handle) -> Sizes;
     fn overlay_c_segments(handle: &mut Handle, out: *mut Segment, out_len: usize);
     fn overlay_c_lines(handle: &mut Handle, out: *mut LineSegment, out_len: usize);
+    fn overlay_c_line_numbers(
+        handle: &mut Handle,
+        counts: *mut usize,
+        counts_len: usize,
+        numbers: *mut usize,
+        numbers_len: usize,
+    );
     fn overlay_c_links(handle: &mut Handle, out: *mut OverlayLink, out_len: usize);
     fn overlay_c_link_data(handle: &mut Handle, out: *mut u64, out_len: usize);
     fn overlay_c_nodes(
@@ -281,6 +298,19 @@ impl Engine {
         let (first, len) = (given.as_ptr(), given.len());
         // SAFETY: the handle is full. Nothing is required of segments and codes.
         unsafe { overlay_c_clip(&mut self.handle, first, len, settings, invert, boundary_included) }
+    }
+
+    /// Does the same, and finds which of the given lines run along each segment of the arrangement. Returns a status.
+    pub fn clip_with_numbers(
+        &mut self,
+        given: &[LineSegment],
+        settings: &Settings,
+        invert: bool,
+        boundary_included: bool,
+    ) -> u8 {
+        let (first, len) = (given.as_ptr(), given.len());
+        // SAFETY: the handle is full. Nothing is required of segments and codes.
+        unsafe { overlay_c_clip_with_numbers(&mut self.handle, first, len, settings, invert, boundary_included) }
     }
 
     /// Copies a contour behind the others of its shape. Returns a status.
@@ -424,6 +454,20 @@ impl Engine {
         let len = self.sizes().lines;
         // SAFETY: the handle is full, and the slice has the `length` that the engine reports.
         unsafe { fill(lines, len, |first| overlay_c_lines(&mut self.handle, first, len)) }
+    }
+
+    /// Copies out how many given lines run along each segment of that arrangement, and then the indexes of these lines, segment
+    /// after segment: those of the last `clip_with_numbers`.
+    pub fn copy_line_numbers(&mut self, counts: &mut Vec<usize>, numbers: &mut Vec<usize>) -> Result<(), Fault> {
+        let Sizes { line_counts, line_numbers, .. } = self.sizes();
+        let handle = &mut self.handle;
+        // SAFETY: the handle is full, and the two slices, which do not overlap, have the lengths that the engine
+        // reports (`counts`, `numbers`).
+        unsafe {
+            fill_both(counts, line_counts, numbers, line_numbers, |one, other| {
+                overlay_c_line_numbers(handle, one, line_counts, other, line_numbers)
+            })
+        }
     }
 
     /// Copies the links out, in place of what the list had.

@@ -8,3 +8,8 @@ pub mod Overlays
 pub mod NamedLinks
 pub mod LineData
 pub mod GivenAgain
+pub mod NumberLists
+pub mod NumberedPieces
+pub mod MadeAgain
+pub mod SplitData
+pub mod GatheredNumbers

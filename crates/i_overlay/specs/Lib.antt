@@ -8,6 +8,8 @@ pub mod SplitLists
 pub mod CallOf
 pub mod GivenAgain
 pub mod SplitterOf
+pub mod NumberLists
+pub mod LineNumbers
 -- what the clauses of the crate cite of the crates below
 pub use Rattle.overlay_geometry.specs.Below
 pub use Rattle.overlay_geometry.specs.Coordinates

@@ -9,10 +9,10 @@ use Rattle.overlay_base.specs.SegmentOf.{segments_of, data_segments_of}
 use Rattle.overlay_base.specs.Segments.{WholeSegment}
 use Rattle.overlay_base.specs.declared.overlay_core.edge_data.OverlayEdgeData.{Ghosts}
 use Rattle.overlay_base.specs.declared.segm.segment.Segment.{Segment}
-use Rattle.overlay_cuts.specs.DataPass.{IsDataAfter}
+use Rattle.overlay_cuts.specs.DataPass.{IsDataAfter, data_after_passes}
 use Rattle.overlay_cuts.specs.Laws.{HooksKeep, HooksNameNoOther, NameNear}
 use Rattle.overlay_cuts.specs.Run.{has_changed}
-use Rattle.overlay_snapping.specs.SnapOf.{HasSnapData, SnapChanges}
+use Rattle.overlay_snapping.specs.SnapOf.{HasSnapData, IsSnapStore, SnapChanges}
 use Rattle.overlay_contours.specs.Splittings.{Splitting, by_passes, by_snapping, SumsLeaveRange}
 use Rattle.i_overlay.specs.Courses.{Course}
 use Rattle.i_overlay.specs.Headline.{IsSplitBy}
@@ -23,6 +23,12 @@ abbrev pub HasDataOf : {C I D S : Type 0} {m : _} {w : _} {o : _} {e : _} {p : _
 HasDataOf {S = S} {m = m} hooks IsFirst (by_passes settings) passes given list =
     IsDataAfter (hooks_of m.counted hooks) IsFirst settings (data_segments_of given.items) (data_segments_of list.items) passes
 HasDataOf {S = S} {m = m} hooks IsFirst by_snapping passes given list = (store : S) × IsFirst store × HasSnapData hooks given store list
+
+-- The store is what passes, or the chains of snap rounding, leave of another.
+abbrev pub LeavesStoreBy : {C I D S : Type 0} {m : _} {w : _} {o : _} {e : _} {p : _} → Ghosts D C S → Splitting → ℕ → Vec (Segment C I D m w o e p) Global → S → S → Type 0
+LeavesStoreBy {m = m} hooks (by_passes settings) passes given from left =
+    left ≡ (data_after_passes (hooks_of m.counted hooks) settings (data_segments_of given.items) from passes).1
+LeavesStoreBy hooks by_snapping passes given from left = IsSnapStore hooks given from left
 
 -- Whatever the hooks keep, and all given data has, all data of the list has.
 abbrev pub HasWhatHolds : {C I D S : Type 0} {m : _} {w : _} {o : _} {e : _} {p : _} → Ghosts D C S → Vec (Segment C I D m w o e p) Global → Vec (Segment C I D m w o e p) Global → Type 0
@@ -46,6 +52,10 @@ pub record SplitsList {C I D S : Type 0} {m : _} {w : _} {o : _} {e : _} {p : _}
   pub line_data : LinesKeepData hooks given list
   -- no sum on the way is too large
   pub fits : SumsLeaveRange course.splitting (segments_of given.items) → ⊥
+
+-- The store is what hooks leave of another that make the data of a list as it is split.
+abbrev pub LeavesStore : {C I D S : Type 0} {m : _} {w : _} {o : _} {e : _} {p : _} → Ghosts D C S → Course → Vec (Segment C I D m w o e p) Global → S → S → Type 0
+LeavesStore hooks course given from left = LeavesStoreBy hooks course.splitting course.passes given from left
 
 -- the flag is whether equal segments were joined or a segment was cut
 abbrev pub TellsChangeBy : Splitting → List WholeSegment → ℕ → Bool → Type 0

@@ -10,7 +10,7 @@ ghost use Rattle.overlay_split.specs.SplitOf.{SumsLeaveRange, ReportsReach, Look
 ghost use Rattle.overlay_sweep.specs.SweepOf.{IsCostOf};
 ghost use Rattle.i_overlay.specs.CallOf.{course_of, ClipsLines, RefusesCall};
 
-pub use crate::clip_by::split_and_build_clip_by;
+pub use crate::clip_by::{split_and_build_clip_by, split_and_build_clip_with_numbers};
 use overlay_base::overlay_core::clip_rule::ClipRule;
 use overlay_base::overlay_core::fill_rule::FillRule;
 use overlay_base::overlay_core::solver::Solver;

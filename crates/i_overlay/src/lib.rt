@@ -7,6 +7,8 @@ pub use overlay_base::{geom, num};
 pub mod build;
 pub mod clip;
 mod clip_by;
+pub mod line_numbers;
+mod number_lists;
 pub mod overlay;
 mod overlay_by;
 pub mod overlay_core;

@@ -4,7 +4,7 @@ ghost use Rattle.overlay_base.specs.ArrangedOf.{IsSplittable, IsArranged};
 ghost use Rattle.overlay_base.specs.SegmentOf.{segments_of};
 ghost use Rattle.overlay_cuts.specs.ResultOf.{ChangesNothing};
 ghost use Rattle.i_overlay.specs.Headline.{IsSplitRefusedBy};
-ghost use Rattle.i_overlay.specs.SplitLists.{SplitsList, TellsChangeBy};
+ghost use Rattle.i_overlay.specs.SplitLists.{SplitsList, LeavesStore, TellsChangeBy};
 ghost use Rattle.i_overlay.specs.SplitterOf.{rounding_in, snap_limit_in, passes_in, reach_in, looked_in, splitting_over, course_over, LooksAreFew, IsSetAsBefore};
 
 use overlay_base::overlay_core::edge_data::OverlayEdgeData;
@@ -142,15 +142,48 @@ impl<I: OverlayInt> Splitter<I> {
         ensures looked { OnOk result (LooksAreFew solver.now self.old self.new list.old) }
         ensures settings { IsSetAsBefore self.old self.new }
     {
+        let mut store = D::Store::default();
+        self.split_segments_with_store(list, solver, &mut store)
+    }
+
+    /// Splits a list as `split_segments` does, with a store for the data that the caller hands on and keeps.
+    ///
+    /// Afterwards the store is what the hooks leave that make the data of the list. Where a call is refused nothing is
+    /// promised of the store.
+    pub fn split_segments_with_store<C: WindingCount, D: OverlayEdgeData<C>>(
+        &mut self,
+        list: &mut Vec<Segment<C, I, D>>,
+        solver: &Solver,
+        store: &mut D::Store,
+    ) -> Result<bool, Fault>
+        requires { IsSplittable list.old.items }
+        ensures split { OnOk result (SplitsList D.OverlayEdgeData.own (λ s. s ≡ store.old)
+            (course_over solver.now self.old self.new list.old) list.old list.new) }
+        ensures store { OnOk result (LeavesStore D.OverlayEdgeData.own
+            (course_over solver.now self.old self.new list.old) list.old store.old store.new) }
+        ensures changed { IfOk result (λ flag. TellsChangeBy (splitting_over solver.now self.old list.old)
+            (segments_of list.old.items) (passes_in self.new) flag) }
+        ensures unchanged { IsArranged list.old.items → IfOk result (ChangesNothing list.old list.new) }
+
+        ensures refused { IfErr result (IsSplitRefusedBy (splitting_over solver.now self.old list.old)
+            (segments_of list.old.items) (segments_of list.new.items)) }
+        ensures emptied { OnErr result (list.new.items ≡ []) }
+        ensures before { OnErr result ((passes_in self.new ≡ passes_in self.old)
+            × (reach_in self.new ≡ reach_in self.old)) }
+        ensures looked { OnOk result (LooksAreFew solver.now self.old self.new list.old) }
+        ensures settings { IsSetAsBefore self.old self.new }
+    {
         match self.rounding {
             Rounding::HotPixels => {
-                let has_changed = self.snapper.split_segments(list, solver)?;
+                let has_changed = self.snapper.split_segments_with_store(list, solver, store)?;
                 self.passes = 1;
                 self.reach = self.snapper.reach();
                 Ok(has_changed)
             }
             Rounding::Pairwise => {
-                let has_changed = self.splitter.split_segments(list, solver)?;
+                let has_changed = self
+                    .splitter
+                    .split_segments_with_store(list, solver, store)?;
                 self.passes = self.splitter.passes();
                 self.reach = self.splitter.reach();
                 Ok(has_changed)

@@ -12,7 +12,7 @@ use Rattle.overlay_base.specs.declared.overlay_core.clip_rule.ClipRule.{ClipRule
 use Rattle.overlay_base.specs.declared.overlay_core.overlay_rule.OverlayRule.{OverlayRule}
 use Rattle.overlay_base.specs.declared.segm.fault.Fault.TheVariants.{Memory, CountOutOfRange}
 use Rattle.overlay_base.specs.Join.{join}
-use Rattle.overlay_contours.specs.Splittings.{Splitting, by_passes, by_snapping}
+use Rattle.overlay_contours.specs.Splittings.{Splitting, by_passes, by_snapping, SumsLeaveRange}
 use Rattle.overlay_snapping.specs.Chains.{AreSnapCuts}
 use Rattle.overlay_snapping.specs.SnapOf.{data_snap}
 use Rattle.overlay_cuts.specs.DataPass.{data_after_passes}
@@ -26,6 +26,7 @@ use Rattle.overlay_build.specs.Walks.{AreClosedWalks}
 use Rattle.i_overlay.specs.Courses.{Course}
 use Rattle.i_overlay.specs.FarRegions.{EnclosesOverlayBeyond}
 use Rattle.i_overlay.specs.Headline.{IsSplitBy, IsOverlayBy, IsClipBy, IsRefusedBy}
+use Rattle.i_overlay.specs.LineNumbers.{TellsLines, line_counts_of, line_numbers_of}
 use Rattle.i_overlay.specs.SplitLists.{TellsChangeBy}
 use Rattle.i_overlay.specs.SplitterOf.{splitting_by, snap_limit_in, passes_in, reach_in}
 use Rattle.overlay_c.specs.Records.{asks, asked_by, line_asks, line_asked_by, link_by, settings_by, fill_rule_of, rounding_of}
@@ -104,6 +105,10 @@ pub record KeepsClip {I : Type 0} {w : _} {o : _} {e : _} {p : _} (settings : Se
   pub clip : IsClipBy (core_course settings core) (fill_rule_of settings.fill_rule) rule given (segments_of core.lines.items) graph
   pub kept : KeepsGraph core graph
 
+-- it keeps which of the given lines run along each segment of that arrangement
+abbrev pub KeepsNumbers : {I : Type 0} {w : _} {o : _} {e : _} {p : _} → SettingsRecord → List WholeSegment → Core I w o e p → Type 0
+KeepsNumbers settings given core = TellsLines (core_course settings core) given (segments_of core.lines.items) core.line_numbers
+
 -- it keeps the arrangement of what was given, and the graph of an overlay
 pub record KeepsOverlay {I : Type 0} {w : _} {o : _} {e : _} {p : _} (settings : SettingsRecord) (rule : OverlayRule) (walks : Bool) (given : List WholeSegment) (core : Core I w o e p) : Type 0 where
   pub graph : Graph
@@ -143,6 +148,8 @@ pub record KeepsData {I : Type 0} {w : _} {o : _} {e : _} {p : _} (settings : Se
 pub record TellsSizes {I : Type 0} {w : _} {o : _} {e : _} {p : _} (core : Core I w o e p) (sizes : SizesRecord) : Type 0 where
   pub segments : sizes.segments ≡ length core.segments.items
   pub lines : sizes.lines ≡ length core.lines.items
+  pub line_counts : sizes.line_counts ≡ length (line_counts_of core.line_numbers)
+  pub line_numbers : sizes.line_numbers ≡ length (line_numbers_of core.line_numbers)
   pub links : sizes.links ≡ length core.links.items
   pub link_data : sizes.link_data ≡ length core.link_data.items
   pub nodes : sizes.nodes ≡ length core.degrees.items
@@ -160,6 +167,11 @@ IsCountRefused settings given before after = IsRefusedBy (core_course settings a
 -- the same of polygons and lines
 abbrev pub IsCountOfLinesRefused : {I : Type 0} {w : _} {o : _} {e : _} {p : _} → SettingsRecord → List WholeSegment → Core I w o e p → Core I w o e p → Type 0
 IsCountOfLinesRefused settings given before after = IsRefusedBy (core_course settings after) (passes_in before.splitter) given (segments_of after.lines.items) CountOutOfRange
+
+-- a count that was refused while numbers were gathered: a sum in the split, or a winding above a segment
+abbrev pub IsCountOfNumberedRefused : {I : Type 0} {w : _} {o : _} {e : _} {p : _} → SettingsRecord → List WholeSegment → Core I w o e p → Type 0
+IsCountOfNumberedRefused settings given core =
+    SumsLeaveRange (core_splitting settings core) given ⊎ IsTrue (tops_leave_range (segments_of core.lines.items))
 
 -- why the graph of all of an arrangement was refused: a growth was, or a winding above a segment leaves the range
 abbrev pub IsBuildRefusal : List WholeSegment → Refusal → Type 0

@@ -8,10 +8,11 @@ use Rattle.overlay_base.specs.SegmentOf.{segments_of}
 use Rattle.overlay_base.specs.declared.overlay_core.clip_rule.ClipRule.{ClipRule}
 use Rattle.overlay_base.specs.declared.overlay_core.overlay_rule.OverlayRule.{OverlayRule}
 use Rattle.overlay_contours.specs.Splittings.{SumsLeaveRange}
+use Rattle.i_overlay.specs.LineNumbers.{line_counts_of, line_numbers_of}
 use Rattle.i_overlay.specs.SplitterOf.{snap_limit_in}
 use Rattle.overlay_sweep.specs.ChainWindings.{tops_leave_range}
 use Rattle.overlay_build.specs.Graph.{Link}
-use Rattle.overlay_c.specs.Kept.{core_splitting, kept_links, TellsSizes, KeepsSplit, BuildsAll, KeepsOverlay, KeepsData, KeepsClip, HasNoWalks, HasNoGraph, StandsAfter, LinesStandAfter, IsCountRefused, IsCountOfLinesRefused}
+use Rattle.overlay_c.specs.Kept.{core_splitting, kept_links, TellsSizes, KeepsSplit, BuildsAll, KeepsOverlay, KeepsData, KeepsClip, KeepsNumbers, HasNoWalks, HasNoGraph, StandsAfter, LinesStandAfter, IsCountRefused, IsCountOfLinesRefused, IsCountOfNumberedRefused}
 use Rattle.overlay_c.specs.declared.records.LinkRecord.{LinkRecord}
 use Rattle.overlay_c.specs.declared.records.SettingsRecord.{SettingsRecord}
 use Rattle.overlay_c.specs.declared.records.SizesRecord.{SizesRecord}
@@ -47,6 +48,9 @@ LastKeepsData settings rule given engine = Pick engine.is_narrow (KeepsData sett
 abbrev pub LastKeepsClip : SettingsRecord → ClipRule → List WholeSegment → Engine → Type 0
 LastKeepsClip settings rule given engine = Pick engine.is_narrow (KeepsClip settings rule given engine.narrow) (KeepsClip settings rule given engine.wide)
 
+abbrev pub LastKeepsNumbers : SettingsRecord → List WholeSegment → Engine → Type 0
+LastKeepsNumbers settings given engine = Pick engine.is_narrow (KeepsNumbers settings given engine.narrow) (KeepsNumbers settings given engine.wide)
+
 abbrev pub LastStandsAfter : SettingsRecord → List WholeSegment → Engine → Type 0
 LastStandsAfter settings given engine = Pick engine.is_narrow (StandsAfter settings given engine.narrow) (StandsAfter settings given engine.wide)
 
@@ -59,6 +63,9 @@ LastIsCountRefused settings given before after = Pick after.is_narrow (IsCountRe
 
 abbrev pub LastIsCountOfLinesRefused : SettingsRecord → List WholeSegment → Engine → Engine → Type 0
 LastIsCountOfLinesRefused settings given before after = Pick after.is_narrow (IsCountOfLinesRefused settings given before.narrow after.narrow) (IsCountOfLinesRefused settings given before.wide after.wide)
+
+abbrev pub LastIsCountOfNumberedRefused : SettingsRecord → List WholeSegment → Engine → Type 0
+LastIsCountOfNumberedRefused settings given engine = Pick engine.is_narrow (IsCountOfNumberedRefused settings given engine.narrow) (IsCountOfNumberedRefused settings given engine.wide)
 
 abbrev pub LastLeavesRange : SettingsRecord → List WholeSegment → Engine → Engine → Type 0
 LastLeavesRange settings given before after = Pick after.is_narrow (SumsLeaveRange (core_splitting settings before.narrow) given) (SumsLeaveRange (core_splitting settings before.wide) given)
@@ -123,6 +130,12 @@ degrees_in engine = pick engine.is_narrow (engine.narrow.degrees.items) (engine.
 
 abbrev pub indexes_in : Engine → List ℕ
 indexes_in engine = pick engine.is_narrow (engine.narrow.indexes.items) (engine.wide.indexes.items)
+
+abbrev pub line_counts_in : Engine → List ℕ
+line_counts_in engine = pick engine.is_narrow (line_counts_of engine.narrow.line_numbers) (line_counts_of engine.wide.line_numbers)
+
+abbrev pub line_numbers_in : Engine → List ℕ
+line_numbers_in engine = pick engine.is_narrow (line_numbers_of engine.narrow.line_numbers) (line_numbers_of engine.wide.line_numbers)
 
 abbrev pub walk_lengths_in : Engine → List ℕ
 walk_lengths_in engine = pick engine.is_narrow (engine.narrow.walk_lengths.items) (engine.wide.walk_lengths.items)

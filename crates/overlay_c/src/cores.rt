@@ -20,7 +20,8 @@ use crate::records::{
 use crate::refusal::Refusal;
 use crate::tags::{self, Tag, TaggedRecord, TaggedSegment, keep_tags, keep_untagged};
 use crate::width::Width;
-use i_overlay::clip::split_and_build_clip_by;
+use i_overlay::clip::{split_and_build_clip_by, split_and_build_clip_with_numbers};
+use i_overlay::line_numbers::LineNumbers;
 use i_overlay::overlay::split_and_build_overlay_by;
 use i_overlay::splitter::Splitter;
 use overlay_base::overlay_core::clip_rule::ClipRule;
@@ -48,6 +49,8 @@ pub struct Core<I: Width> {
     pub segments: Vec<BooleanSegment<I>>,
     /// The arrangement of polygons and lines.
     pub lines: Vec<Line<I>>,
+    /// Which given lines run along each of its segments, where that was wanted.
+    pub line_numbers: LineNumbers,
     /// The segments with data that a split is made of, and their arrangement.
     pub tagged: Vec<TaggedSegment<I>>,
     /// Whether the last split joined equal segments or split one, or the last join joined some.
@@ -76,7 +79,7 @@ impl<I: Width> Core<I> {
     ghost use Rattle.overlay_contours.specs.Splittings.{SumsLeaveRange};
     ghost use Rattle.i_overlay.specs.SplitterOf.{snap_limit_in};
     ghost use Rattle.overlay_c.specs.Tags.{untagged, tagged_by};
-    ghost use Rattle.overlay_c.specs.Kept.{core_splitting, TellsSizes, KeepsData, KeepsSplit, BuildsAll, KeepsOverlay, KeepsClip, HasNoWalks, HasNoGraph, IsCountRefused, IsBuildRefusal, IsCountOfLinesRefused, StandsAfter, LinesStandAfter};
+    ghost use Rattle.overlay_c.specs.Kept.{core_splitting, TellsSizes, KeepsData, KeepsSplit, BuildsAll, KeepsOverlay, KeepsClip, KeepsNumbers, HasNoWalks, HasNoGraph, IsCountRefused, IsBuildRefusal, IsCountOfLinesRefused, IsCountOfNumberedRefused, StandsAfter, LinesStandAfter};
 
     /// A core, which takes no memory yet.
     pub fn new(alloc: Global, snap_limit: u32) -> Core<I>
@@ -89,6 +92,7 @@ impl<I: Width> Core<I> {
             tag_builder: GraphBuilder::new(alloc),
             segments: Vec::new(alloc),
             lines: Vec::new(alloc),
+            line_numbers: LineNumbers::new(alloc),
             tagged: Vec::new(alloc),
             has_changed: false,
             fills: Vec::new(alloc),
@@ -341,6 +345,51 @@ impl<I: Width> Core<I> {
         Ok(())
     }
 
+    /// Does the same, and keeps the numbers of the lines that run along each segment of the arrangement: the indexes of their
+    /// records.
+    pub fn clip_with_numbers(
+        &mut self,
+        given: &[LineRecord],
+        settings: &SettingsRecord,
+        rule: ClipRule,
+    ) -> Result<(), Refusal>
+        ensures kept { OnOk result (KeepsClip settings.now rule (map line_asked_by given.now) self.new) }
+        ensures kept_numbers { OnOk result (KeepsNumbers settings.now (map line_asked_by given.now) self.new) }
+        ensures usable { OnOk result (IsTrue (are_lines_usable (I.whole I.MIN_COORD) (I.whole I.MAX_COORD) given.now)) }
+        ensures unusable { OnUnusable result (IsFalse (are_lines_usable (I.whole I.MIN_COORD) (I.whole I.MAX_COORD) given.now)) }
+        ensures refused { IfErr result IsSplitRefusal }
+        ensures too_large { OnTooLarge result (IsCountOfNumberedRefused settings.now (map line_asked_by given.now) self.new) }
+        ensures stands { OnErr result (LinesStandAfter settings.now (map line_asked_by given.now) self.new) }
+        ensures limit { snap_limit_in self.new.splitter ≡ snap_limit_in self.old.splitter }
+        ensures no_walks { HasNoWalks self.new }
+        ensures segments { self.new.segments ≡ self.old.segments }
+        ensures link_data { self.new.link_data ≡ self.old.link_data }
+        ensures has_changed { self.new.has_changed ≡ self.old.has_changed }
+    {
+        drop_walks(
+            &mut self.has_walks,
+            &mut self.walk_lengths,
+            &mut self.walk_links,
+        );
+        load_splittable_lines(given, &mut self.lines)?;
+        let solver = solver(settings);
+        let fill_rule = fill_rule(settings.fill_rule);
+        self.splitter.set_rounding(rounding(settings.rounding));
+        let (splitter, builder) = (&mut self.splitter, &mut self.line_builder);
+        let graph = split_and_build_clip_with_numbers(
+            splitter,
+            builder,
+            &mut self.lines,
+            &mut self.line_numbers,
+            &solver,
+            fill_rule,
+            rule,
+        )?;
+        keep_links(graph.links(), &mut self.links)?;
+        keep_lists(graph.nodes(), &mut self.degrees, &mut self.indexes)?;
+        Ok(())
+    }
+
     /// How much it keeps. Of contours it keeps none.
     pub fn sizes(&self) -> SizesRecord
         ensures { TellsSizes self.now result }
@@ -348,6 +397,8 @@ impl<I: Width> Core<I> {
         SizesRecord {
             segments: self.segments.len(),
             lines: self.lines.len(),
+            line_counts: self.line_numbers.counts().len(),
+            line_numbers: self.line_numbers.numbers().len(),
             links: self.links.len(),
             link_data: self.link_data.len(),
             nodes: self.degrees.len(),

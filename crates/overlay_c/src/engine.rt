@@ -59,7 +59,7 @@ impl Engine {
     ghost use Rattle.overlay_c.specs.Kept.{given_by, IsBuildRefusal, IsSplitRefusal, are_usable, are_lines_usable};
     ghost use Rattle.overlay_c.specs.Records.{line_asked_by, told_by, line_told_by, link_by, names_narrow, number_by};
     ghost use Rattle.overlay_c.specs.Tags.{untagged, tagged_by};
-    ghost use Rattle.overlay_c.specs.Widths.{least_of, greatest_of, LastKeepsSplit, IsLastArranged, LastBuildsAll, SameSegments, LastKeepsOverlay, LastKeepsData, LastKeepsClip, LastStandsAfter, LastLinesStandAfter, LastIsCountRefused, LastIsCountOfLinesRefused, LastLeavesRange, SameLimits, SameOther, SameArrangements, SameLines, SameData, SameChange, LastHasNoWalks, LastHasNoGraph, LastTellsSizes, segment_count, line_count, link_count, segments_in, lines_in, has_changed_in, links_in, link_data_in, degrees_in, indexes_in, walk_lengths_in, walk_links_in};
+    ghost use Rattle.overlay_c.specs.Widths.{least_of, greatest_of, LastKeepsSplit, IsLastArranged, LastBuildsAll, SameSegments, LastKeepsOverlay, LastKeepsData, LastKeepsClip, LastKeepsNumbers, LastStandsAfter, LastLinesStandAfter, LastIsCountRefused, LastIsCountOfLinesRefused, LastIsCountOfNumberedRefused, LastLeavesRange, SameLimits, SameOther, SameArrangements, SameLines, SameData, SameChange, LastHasNoWalks, LastHasNoGraph, LastTellsSizes, segment_count, line_count, link_count, segments_in, lines_in, has_changed_in, links_in, link_data_in, line_counts_in, line_numbers_in, degrees_in, indexes_in, walk_lengths_in, walk_links_in};
     ghost use Rattle.overlay_base.specs.declared.segm.shape_type.ShapeType.TheVariants.{Subject, Clip};
     ghost use Rattle.overlay_contours.specs.Kept.{passes_of, reach_of};
     ghost use Rattle.overlay_contours.specs.Refusals.{other_shape};
@@ -285,6 +285,40 @@ impl Engine {
         }
     }
 
+    /// `Core::clip_with_numbers` of the engine that the settings name.
+    pub fn clip_with_numbers(
+        &mut self,
+        given: &[LineRecord],
+        settings: &SettingsRecord,
+        rule: ClipRule,
+    ) -> Result<(), Refusal>
+        ensures chosen { self.new.is_narrow ≡ names_narrow settings.now.engine }
+        ensures kept { OnOk result (LastKeepsClip settings.now rule (map line_asked_by given.now) self.new) }
+        ensures kept_numbers { OnOk result (LastKeepsNumbers settings.now (map line_asked_by given.now) self.new) }
+        ensures usable { OnOk result (MaySplitLines given.now self.new) }
+        ensures unusable { OnUnusable result (MayNotSplitLines given.now self.new) }
+        ensures refused { IfErr result IsSplitRefusal }
+        ensures too_large { OnTooLarge result (LastIsCountOfNumberedRefused settings.now (map line_asked_by given.now) self.new) }
+        ensures stands { OnErr result (LastLinesStandAfter settings.now (map line_asked_by given.now) self.new) }
+        ensures limit { SameLimits self.old self.new }
+        ensures no_walks { LastHasNoWalks self.new }
+        ensures segments { SameArrangements self.old self.new }
+        ensures link_data { SameData self.old self.new }
+        ensures has_changed { SameChange self.old self.new }
+        ensures other { SameOther self.old self.new }
+        ensures contours { self.new.polygons ≡ self.old.polygons }
+        ensures arrangement { self.new.arrangement ≡ self.old.arrangement }
+        ensures result { SameResult self.old self.new }
+    {
+        if is_narrow(settings.engine) {
+            self.is_narrow = true;
+            self.narrow.clip_with_numbers(given, settings, rule)
+        } else {
+            self.is_narrow = false;
+            self.wide.clip_with_numbers(given, settings, rule)
+        }
+    }
+
     /// How much it keeps.
     pub fn sizes(&self) -> SizesRecord
         ensures core { LastTellsSizes self.now result }
@@ -318,6 +352,28 @@ impl Engine {
             &self.narrow.link_data
         } else {
             &self.wide.link_data
+        }
+    }
+
+    /// How many given lines run along each segment of the polygons and lines that the core of the last call keeps.
+    pub fn line_counts(&self) -> &[usize]
+        ensures { result.now ≡ line_counts_in self.now }
+    {
+        if self.is_narrow {
+            self.narrow.line_numbers.counts()
+        } else {
+            self.wide.line_numbers.counts()
+        }
+    }
+
+    /// The indexes of these lines, segment by segment.
+    pub fn line_numbers(&self) -> &[usize]
+        ensures { result.now ≡ line_numbers_in self.now }
+    {
+        if self.is_narrow {
+            self.narrow.line_numbers.numbers()
+        } else {
+            self.wide.line_numbers.numbers()
         }
     }
 

@@ -12,7 +12,7 @@ ghost use Rattle.overlay_geometry.specs.Coordinates.{least_coordinate, greatest_
 ghost use Rattle.overlay_intersections.specs.CrossAnswer.{cross_answer};
 ghost use Rattle.overlay_intersections.specs.Marks.{snapping};
 ghost use Rattle.overlay_c.specs.Kept.{given_by};
-ghost use Rattle.overlay_c.specs.Widths.{LastKeepsSplit, IsLastArranged, LastBuildsAll, LastTopsLeaveRange, SameSegments, LastStandsAfter, LastLinesStandAfter, LastIsCountRefused, LastIsCountOfLinesRefused, LastLeavesRange, LastTellsSizes, SameLimits, SameOther, SameArrangements, SameLines, SameData, SameChange, LastHasNoWalks, LastHasNoGraph, segment_count, line_count, link_count, segments_in, lines_in, has_changed_in, links_in, link_data_in, degrees_in, indexes_in, walk_lengths_in, walk_links_in};
+ghost use Rattle.overlay_c.specs.Widths.{LastKeepsSplit, IsLastArranged, LastBuildsAll, LastKeepsNumbers, LastTopsLeaveRange, SameSegments, LastStandsAfter, LastLinesStandAfter, LastIsCountRefused, LastIsCountOfLinesRefused, LastIsCountOfNumberedRefused, LastLeavesRange, LastTellsSizes, SameLimits, SameOther, SameArrangements, SameLines, SameData, SameChange, LastHasNoWalks, LastHasNoGraph, segment_count, line_count, link_count, segments_in, lines_in, has_changed_in, links_in, link_data_in, line_counts_in, line_numbers_in, degrees_in, indexes_in, walk_lengths_in, walk_links_in};
 ghost use Rattle.overlay_c.specs.Tags.{untagged, tagged_by};
 ghost use Rattle.overlay_base.specs.declared.segm.shape_type.ShapeType.TheVariants.{Subject, Clip};
 ghost use Rattle.overlay_contours.specs.Kept.{passes_of, reach_of};
@@ -299,6 +299,48 @@ pub extern "C" fn overlay_c_clip(
         boundary_included,
     };
     let outcome = engine.clip(given, settings, rule);
+    put(handle, engine);
+    status(outcome)
+}
+
+/// The parts of lines that a clip rule keeps, as of `overlay_c_clip`, and which of the given lines run along each segment of the
+/// arrangement of polygons and lines: `overlay_c_line_numbers` copies their numbers, the indexes of their records. Links are in the
+/// order of the segments. Returns as `overlay_c_overlay` does; nothing is promised of the numbers after a refusal.
+#[unsafe(no_mangle)]
+pub extern "C" fn overlay_c_clip_with_numbers(
+    alloc: Global,
+    handle: &mut Handle,
+    given: &[LineRecord],
+    settings: &SettingsRecord,
+    invert: bool,
+    boundary_included: bool,
+) -> u8
+    requires { IsSome handle.old.engine }
+    ensures full { IsSome handle.new.engine }
+    ensures chosen { Leaves handle.new (Chooses settings.now.engine) }
+    ensures done { result ≡ 0 → Leaves handle.new (KeepsClipBy settings.now invert boundary_included given.now) }
+    ensures numbers { result ≡ 0 → Leaves handle.new (LastKeepsNumbers settings.now (map line_asked_by given.now)) }
+    ensures usable { result ≡ 0 → Leaves handle.new (MaySplitLines given.now) }
+    ensures unusable { result ≡ 3 → Leaves handle.new (MayNotSplitLines given.now) }
+    ensures too_large { result ≡ 2 → Leaves handle.new (LastIsCountOfNumberedRefused settings.now (map line_asked_by given.now)) }
+    ensures stands { result ≢ 0 → Leaves handle.new (LastLinesStandAfter settings.now (map line_asked_by given.now)) }
+    ensures limit { Turns handle.old handle.new SameLimits }
+    ensures codes { result < 4 }
+    ensures no_walks { Leaves handle.new LastHasNoWalks }
+    ensures segments { Turns handle.old handle.new SameArrangements }
+    ensures link_data { Turns handle.old handle.new SameData }
+    ensures has_changed { Turns handle.old handle.new SameChange }
+    ensures other { Turns handle.old handle.new SameOther }
+    ensures contours { Turns handle.old handle.new SameContours }
+    ensures arrangement { Turns handle.old handle.new StaysAsArranged }
+    ensures result { Turns handle.old handle.new SameResult }
+{
+    let mut engine = take(alloc, handle);
+    let rule = ClipRule {
+        invert,
+        boundary_included,
+    };
+    let outcome = engine.clip_with_numbers(given, settings, rule);
     put(handle, engine);
     status(outcome)
 }
@@ -805,6 +847,28 @@ pub extern "C" fn overlay_c_lines(alloc: Global, handle: &mut Handle, out: &mut 
 {
     let engine = take(alloc, handle);
     engine.write_lines(out);
+    put(handle, engine);
+}
+
+/// Copies out how many given lines run along each segment of the arrangement of polygons and lines, and the numbers of these lines,
+/// segment by segment: those of the last `overlay_c_clip_with_numbers`.
+#[unsafe(no_mangle)]
+pub extern "C" fn overlay_c_line_numbers(
+    alloc: Global,
+    handle: &mut Handle,
+    counts: &mut [usize],
+    numbers: &mut [usize],
+)
+    requires engine { IsSome handle.old.engine }
+    requires counts { IfSome handle.old.engine (λ engine. length counts.old ≡ length (line_counts_in engine)) }
+    requires numbers { IfSome handle.old.engine (λ engine. length numbers.old ≡ length (line_numbers_in engine)) }
+    ensures same { handle.new.engine ≡ handle.old.engine }
+    ensures counts { IfSome handle.old.engine (λ engine. counts.new ≡ line_counts_in engine) }
+    ensures numbers { IfSome handle.old.engine (λ engine. numbers.new ≡ line_numbers_in engine) }
+{
+    let engine = take(alloc, handle);
+    counts.copy_from_slice(engine.line_counts());
+    numbers.copy_from_slice(engine.line_numbers());
     put(handle, engine);
 }
 

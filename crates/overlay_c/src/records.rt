@@ -373,6 +373,10 @@ pub fn solver(settings: &SettingsRecord) -> Solver
 pub struct SizesRecord {
     pub segments: usize,
     pub lines: usize,
+    /// Of how many segments of polygons and lines the last `overlay_c_clip_with_numbers` left numbers.
+    pub line_counts: usize,
+    /// How many numbers of lines they have together.
+    pub line_numbers: usize,
     pub links: usize,
     /// Of how many links there is data.
     pub link_data: usize,

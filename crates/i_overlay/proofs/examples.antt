@@ -1,0 +1,2 @@
+-- Worked examples of the definitions, which hold by computation.
+pub mod LineNumbers
