@@ -28,6 +28,7 @@ mod relations;
 mod rules;
 mod segment;
 mod solver;
+mod tile;
 
 pub use arrangement::Arrangement;
 pub use cross::{cross, CollinearMask, CrossResult, CrossType};
@@ -44,3 +45,4 @@ pub use relations::{Part, Relation};
 pub use rules::{ClipRule, FillRule, OverlayRule, RuleTable};
 pub use segment::{DataSegment, LineSegment, Segment, ShapeCountBoolean, ShapeType};
 pub use solver::{Precision, Rounding, Solver, Strategy};
+pub use tile::{clip_to_tile, Tile};

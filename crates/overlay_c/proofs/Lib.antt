@@ -6,5 +6,6 @@ pub mod Meetings
 pub mod Overlays
 pub mod Refusals
 pub mod Steps
+pub mod Ranges
 pub mod Usable
 pub mod Values

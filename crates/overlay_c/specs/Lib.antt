@@ -9,4 +9,5 @@ pub mod Records
 pub mod Relations
 pub mod Status
 pub mod Tags
+pub mod Tiles
 pub mod Widths
