@@ -198,7 +198,7 @@ impl Overlay {
     ///
     /// So the overlays that follow return the part of the overlay that belongs to the tile: all its points lie in the tile,
     /// and it is right at each of the tile's points that is farther than a whole unit from every given edge that runs along no
-    /// axis. Edges of a part may run along the borders.
+    /// axis. Edges of a part may run along the borders. [`TiledOverlay`](crate::TiledOverlay) joins the parts of many tiles.
     ///
     /// ```
     /// use fadrinzo::{square, FillRule, IntPoint, Overlay, OverlayRule, ShapeType, Tile};
