@@ -1,7 +1,10 @@
 //! The race over our package: the words of a command line, and the line that it prints, are those of `../cpp/race.h`; a
 //! last word `pairwise` chooses that rounding. Each run makes an `Overlay`, adds the contours, and overlays them.
 
-use fadrinzo::{Error, FillRule, IntContour, IntPoint, Overlay, OverlayRule, Rounding};
+mod input;
+
+use fadrinzo::{Error, FillRule, IntContour, IntPoint, Overlay, Rounding};
+use input::{most_memory, read, rule, twice_area};
 use std::time::Instant;
 
 #[repr(C)]
@@ -20,38 +23,6 @@ fn cpu() -> f64 {
     // SAFETY: `time` is a `struct timespec` of 64-bit Linux, and 3 is its CLOCK_THREAD_CPUTIME_ID
     unsafe { clock_gettime(3, &mut time) };
     time.seconds as f64 * 1e3 + time.nanoseconds as f64 / 1e6
-}
-
-/// The most memory of this process so far, in KiB.
-fn most_memory() -> String {
-    let text = std::fs::read_to_string("/proc/self/status").unwrap_or_default();
-    let most = text.lines().find_map(|line| line.strip_prefix("VmHWM:"));
-    most.map_or("0".to_string(), |number| number.trim_end_matches("kB").trim().to_string())
-}
-
-/// The contours of the subject and of the clip.
-fn read(path: &str) -> [Vec<IntContour>; 2] {
-    let mut shapes = [Vec::new(), Vec::new()];
-    for line in std::fs::read_to_string(path).expect("a file").lines() {
-        let (shape, numbers) = line.split_at(1);
-        let numbers: Vec<i32> = numbers.split_ascii_whitespace().map(|it| it.parse().expect("a number")).collect();
-        shapes[usize::from(shape == "C")].push(numbers.chunks(2).map(|it| IntPoint::new(it[0], it[1])).collect());
-    }
-    shapes
-}
-
-fn twice_area(contour: &[IntPoint]) -> i128 {
-    let next = contour.iter().cycle().skip(1);
-    contour.iter().zip(next).map(|(a, b)| a.x as i128 * b.y as i128 - a.y as i128 * b.x as i128).sum()
-}
-
-fn rule(word: &str) -> OverlayRule {
-    match word {
-        "union" => OverlayRule::Union,
-        "intersect" => OverlayRule::Intersect,
-        "difference" => OverlayRule::Difference,
-        _ => OverlayRule::Xor,
-    }
 }
 
 fn length(contour: &[IntPoint]) -> f64 {
