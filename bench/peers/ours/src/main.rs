@@ -4,30 +4,16 @@
 mod input;
 
 use fadrinzo::{Error, FillRule, IntContour, IntPoint, Overlay, Rounding};
-use input::{most_memory, read, rule, twice_area};
+use input::{cpu, most_memory, read, rule, twice_area};
 use std::time::Instant;
-
-#[repr(C)]
-struct Timespec {
-    seconds: i64,
-    nanoseconds: i64,
-}
-
-extern "C" {
-    fn clock_gettime(clock: i32, time: *mut Timespec) -> i32;
-}
-
-/// The processor's milliseconds of this thread.
-fn cpu() -> f64 {
-    let mut time = Timespec { seconds: 0, nanoseconds: 0 };
-    // SAFETY: `time` is a `struct timespec` of 64-bit Linux, and 3 is its CLOCK_THREAD_CPUTIME_ID
-    unsafe { clock_gettime(3, &mut time) };
-    time.seconds as f64 * 1e3 + time.nanoseconds as f64 / 1e6
-}
 
 fn length(contour: &[IntPoint]) -> f64 {
     let next = contour.iter().cycle().skip(1);
-    contour.iter().zip(next).map(|(a, b)| (b.x as f64 - a.x as f64).hypot(b.y as f64 - a.y as f64)).sum()
+    contour
+        .iter()
+        .zip(next)
+        .map(|(a, b)| (b.x as f64 - a.x as f64).hypot(b.y as f64 - a.y as f64))
+        .sum()
 }
 
 /// The result of some runs, and the least milliseconds of one: the processor's, and those on the wall.
@@ -62,10 +48,16 @@ fn main() {
     let [subject, clip] = read(&words[2]);
     let runs = words[3].parse().expect("a number of runs");
     let seconds = words[4].parse().expect("a number of seconds");
-    let rounding = if words.len() > 5 { Rounding::Pairwise } else { Rounding::HotPixels };
+    let rounding = if words.len() > 5 {
+        Rounding::Pairwise
+    } else {
+        Rounding::HotPixels
+    };
     let before = most_memory();
     let (contours, cpu, wall) = measure(runs, seconds, || {
-        Overlay::with_contours(&subject, &clip)?.with_rounding(rounding).overlay(rule, FillRule::NonZero)
+        Overlay::with_contours(&subject, &clip)?
+            .with_rounding(rounding)
+            .overlay(rule, FillRule::NonZero)
     });
     let after = most_memory();
     let (count, points) = (contours.len(), contours.iter().map(Vec::len).sum::<usize>());
