@@ -82,6 +82,9 @@ fadrinzo_status fadrinzo_clear(fadrinzo *overlay)
     return FADRINZO_OK;
 }
 
+/* What an export returns where a box is no tile. */
+enum { NO_TILE = 5 };
+
 static int is_shape(int shape)
 {
     return shape == FADRINZO_SUBJECT || shape == FADRINZO_CLIP;
@@ -92,6 +95,16 @@ fadrinzo_status fadrinzo_add_contour(fadrinzo *overlay, int shape, const int32_t
     if (!overlay || (!xy && points) || !is_shape(shape))
         return FADRINZO_BAD_ARGUMENT;
     return (fadrinzo_status)overlay_c_add_contour(&overlay->handle, (const fadrinzo_point *)xy, points, (uint8_t)shape);
+}
+
+fadrinzo_status fadrinzo_add_contour_in_tile(fadrinzo *overlay, int shape, const int32_t *xy, size_t points, const fadrinzo_box *tile)
+{
+    if (!overlay || (!xy && points) || !is_shape(shape) || !tile)
+        return FADRINZO_BAD_ARGUMENT;
+    fadrinzo_tile borders = {.min_x = tile->min_x, .min_y = tile->min_y, .max_x = tile->max_x, .max_y = tile->max_y};
+    const fadrinzo_point *first = (const fadrinzo_point *)xy;
+    uint8_t status = overlay_c_add_contour_in_tile(&overlay->handle, first, points, (uint8_t)shape, &borders);
+    return status == NO_TILE ? FADRINZO_BAD_ARGUMENT : (fadrinzo_status)status;
 }
 
 /* Whether points are in range. */
@@ -261,6 +274,15 @@ static int is_relation(int relation)
 static fadrinzo_settings settings_for(int fill_rule)
 {
     return (fadrinzo_settings){.progression = 1, .strategy = 3, .fill_rule = (uint8_t)fill_rule};
+}
+
+fadrinzo_status fadrinzo_given(fadrinzo *overlay, int shape)
+{
+    if (!overlay || !is_shape(shape))
+        return refuse(overlay);
+    drop_result(overlay);
+    fadrinzo_status status = (fadrinzo_status)overlay_c_given(&overlay->handle, (uint8_t)shape);
+    return status == FADRINZO_OK ? keep_result(overlay, 0) : status;
 }
 
 typedef uint8_t overlay_call(fadrinzo_handle *handle, const fadrinzo_settings *settings, uint8_t rule);

@@ -143,6 +143,23 @@ fadrinzo_status fadrinzo_add_contour(fadrinzo *overlay, int shape, const int32_t
    is out of range nothing is added; if there is no memory the contours before are. */
 fadrinzo_status fadrinzo_add_contours(fadrinzo *overlay, int shape, const int32_t *xy, const size_t *lengths, size_t contours);
 
+/* A rectangle that is wider and higher than 0. Its left and its upper border belong to it. */
+typedef struct {
+    int32_t min_x;
+    int32_t min_y;
+    int32_t max_x;
+    int32_t max_y;
+} fadrinzo_box;
+
+/* Adds what a box, a tile of the plane, has of a contour: the contour, cut and clamped to it, or nothing where it lies beside it. So what follows
+   is the part of the overlay that belongs to the tile. It is right at each point of the tile that is farther than a whole unit from every
+   given edge along no axis, and all of it lies in the tile. FADRINZO_BAD_ARGUMENT if the box is null, is not wider and higher than 0, or has a
+   border out of range. Many threads can make parts, each with an overlay of its own. */
+fadrinzo_status fadrinzo_add_contour_in_tile(fadrinzo *overlay, int shape, const int32_t *xy, size_t points, const fadrinzo_box *tile);
+
+/* Makes the contours of a shape that were added the result, in their order, as far as tiles have them. */
+fadrinzo_status fadrinzo_given(fadrinzo *overlay, int shape);
+
 /* Adds a polygon of so many rings to the subject or to the clip: ring i has lengths[i] points, behind those of the rings before it. The
    first ring is the outer boundary, and the others are holes. Rings may run either way: the outer boundary is turned counterclockwise
    and each hole clockwise, by the sign of the exact area. A last point that repeats the first is dropped. So holes that lie apart in the

@@ -168,6 +168,18 @@ typedef struct {
     bool exterior_exterior;
 } fadrinzo_matrix;
 
+/* The borders of a tile: a rectangle with whole corners in range that is wider and higher than 0. */
+typedef struct {
+    /* The left border, which belongs to the tile. */
+    int32_t min_x;
+    /* The lower border, which does not. */
+    int32_t min_y;
+    /* The right border, which does not. */
+    int32_t max_x;
+    /* The upper border, which belongs to it. */
+    int32_t max_y;
+} fadrinzo_tile;
+
 /* Makes an engine, in an empty handle. Returns whether there was memory. */
 bool overlay_c_new(fadrinzo_handle *handle, uint32_t snap_limit);
 
@@ -212,6 +224,20 @@ uint8_t overlay_c_clip_with_numbers(fadrinzo_handle *handle, const fadrinzo_line
 /* Copies a contour behind the others of the subject, where the shape's code is 0, or else of the clip. Returns 0
    where it is added; else nothing is: 1 where memory was refused, 4 where a point is out of range. */
 uint8_t overlay_c_add_contour(fadrinzo_handle *handle, const fadrinzo_point *contour, size_t contour_len, uint8_t shape);
+
+/* Copies what a tile has of a contour behind the others of the subject, where the shape's code is 0, or else of the
+   clip: the contour, cut and clamped to the tile, or nothing where it lies beside it. What was added winds around
+   each point of the tile as the given contours, if it is farther than half a unit from every given step that runs
+   along no axis. So the overlays that follow return the part of the overlay that belongs to the tile. By snap
+   rounding it is right at each point of the tile that is farther than a whole unit from these steps, and all its
+   points lie in the tile. Returns 0 where it is done; else nothing is added: 1 where memory was refused, 4 where a
+   point is out of range, 5 where the record has no tile, also where a point is out of range. */
+uint8_t overlay_c_add_contour_in_tile(fadrinzo_handle *handle, const fadrinzo_point *contour, size_t contour_len, uint8_t shape, const fadrinzo_tile *borders);
+
+/* Keeps the contours of a shape that were added, in that order, as those of a result in no shapes:
+   overlay_c_contours then copies them out. So what a tile has of contours can be handed to another process. Returns
+   0 where it is done, and 1 where memory was refused. The contours that were added stay. */
+uint8_t overlay_c_given(fadrinzo_handle *handle, uint8_t shape);
 
 /* The overlay of the contours that were added, as contours that have it on their left: outer boundaries run
    counterclockwise, and holes clockwise. Returns 0 where it is done, 1 where memory was refused, and 2 where a

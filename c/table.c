@@ -331,6 +331,71 @@ static void check_many_contours(void)
     fadrinzo_free(many);
 }
 
+/* How often a result winds around the middle of a unit square. */
+static int winding_of(fadrinzo_result found, int x, int y)
+{
+    int winds = 0;
+    for (size_t i = 0; i < found.contours; i++)
+        winds += winding(found.xy + 2 * found.contour_starts[i], found.contour_starts[i + 1] - found.contour_starts[i], x, y);
+    return winds;
+}
+
+static void add_in_tile(fadrinzo *overlay, const fadrinzo_box *tile)
+{
+    for (size_t i = 0; i < given_count; i++)
+        CHECK(fadrinzo_add_contour_in_tile(overlay, given[i].shape, given[i].xy, given[i].points, tile) == FADRINZO_OK, "contour %zu", i);
+}
+
+/* What a tile has of contours winds in it as they do; by the rule at an index its part winds there as the rule says, and outside as
+   where it holds for no contour. */
+static void check_tile(const fadrinzo_box *tile, int index, int fill_rule)
+{
+    fadrinzo *overlay = fadrinzo_new();
+    CHECK(overlay, "memory");
+    add_in_tile(overlay, tile);
+    for (int shape = 0; shape < 2; shape++) {
+        CHECK(fadrinzo_given(overlay, shape) == FADRINZO_OK && !fadrinzo_get(overlay).shapes, "shape %d", shape);
+        for (int x = tile->min_x; x < tile->max_x; x++)
+            for (int y = tile->min_y; y < tile->max_y; y++)
+                CHECK(winding_of(fadrinzo_get(overlay), x, y) == winding_of_given(shape, x, y), "shape %d, at %d %d", shape, x, y);
+    }
+    CHECK(fadrinzo_overlay(overlay, code_of(index), fill_rule) == FADRINZO_OK, "rule %d", index);
+    for (int x = -2; x < SPAN + 2; x++)
+        for (int y = -2; y < SPAN + 2; y++) {
+            int is_in = tile->min_x <= x && x < tile->max_x && tile->min_y <= y && y < tile->max_y;
+            int s = is_in && is_inside(fill_rule, winding_of_given(FADRINZO_SUBJECT, x, y));
+            int c = is_in && is_inside(fill_rule, winding_of_given(FADRINZO_CLIP, x, y));
+            int wanted = holds(index, s, c) - holds(index, 0, 0);
+            CHECK(winding_of(fadrinzo_get(overlay), x, y) == wanted, "rule %d, fill %d, at %d %d", index, fill_rule, x, y);
+        }
+    fadrinzo_free(overlay);
+}
+
+/* Tiles inside, across and beside the squares, and boxes that are none. */
+static void check_tiles(void)
+{
+    static const fadrinzo_box tiles[] = {{3, 2, 11, 7}, {-5, -5, 9, 30}, {12, 9, 20, 17}, {0, 0, 20, 20}, {21, 0, 22, 24}};
+    given = squares;
+    given_count = 6;
+    for (size_t i = 0; i < sizeof tiles / sizeof *tiles; i++)
+        for (int fill_rule = 0; fill_rule < FILLS; fill_rule++)
+            for (int index = 0; index < RULES; index++)
+                check_tile(&tiles[i], index, fill_rule);
+    static const fadrinzo_box none[] = {{0, 0, 0, 4}, {0, 4, 4, 4}, {4, 0, 0, 4}, {0, 0, 4, FADRINZO_MAX_COORD + 1}, {FADRINZO_MIN_COORD - 1, 0, 4, 4}};
+    fadrinzo *overlay = fadrinzo_new();
+    CHECK(overlay, "memory");
+    for (size_t i = 0; i < sizeof none / sizeof *none; i++)
+        CHECK(fadrinzo_add_contour_in_tile(overlay, 0, squares[0].xy, 4, &none[i]) == FADRINZO_BAD_ARGUMENT, "box %zu", i);
+    CHECK(fadrinzo_add_contour_in_tile(overlay, 0, squares[0].xy, 4, NULL) == FADRINZO_BAD_ARGUMENT, "null");
+    CHECK(fadrinzo_add_contour_in_tile(overlay, 2, squares[0].xy, 4, tiles) == FADRINZO_BAD_ARGUMENT, "shape 2");
+    CHECK(fadrinzo_add_contour_in_tile(NULL, 0, squares[0].xy, 4, tiles) == FADRINZO_BAD_ARGUMENT, "null");
+    static const int32_t far[4] = {0, 0, FADRINZO_MAX_COORD + 1, 0};
+    CHECK(fadrinzo_add_contour_in_tile(overlay, 0, far, 2, tiles) == FADRINZO_POINT_OUT_OF_RANGE, "a point out of range");
+    CHECK(fadrinzo_given(overlay, 0) == FADRINZO_OK && !fadrinzo_get(overlay).contours, "nothing is added");
+    CHECK(fadrinzo_given(overlay, 2) == FADRINZO_BAD_ARGUMENT && fadrinzo_given(NULL, 0) == FADRINZO_BAD_ARGUMENT, "bad arguments");
+    fadrinzo_free(overlay);
+}
+
 /* A polygon with a hole, each of its rings either way and closed or not: the hole is one. */
 static void check_polygons(void)
 {
@@ -727,6 +792,7 @@ int main(void)
     check_middles();
     check_polygons();
     check_many_contours();
+    check_tiles();
     check_relations();
     check_not_exact();
     check_refusals();

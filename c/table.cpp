@@ -340,6 +340,16 @@ void check_refusals()
     CHECK(status_of([&] { overlay.relate(fill_rule); }) == FADRINZO_CLIP_NOT_EXACT);
 }
 
+void check_tile()
+{
+    Overlay overlay;
+    overlay.add_contour_in_tile(ShapeType::Subject, rectangle(0, 0, 6, 6), {4, 2, 9, 5});
+    overlay.add_contour_in_tile(ShapeType::Clip, {{10, 0}, {12, 0}, {12, 9}}, {4, 2, 9, 5});
+    CHECK(doubled_area(overlay.given(ShapeType::Subject)) == 2 * 2 * 3 && overlay.given(ShapeType::Clip).empty());
+    CHECK(doubled_area(overlay.overlay(OverlayRule::Xor, FillRule::NonZero)) == 2 * 2 * 3);
+    CHECK(status_of([&] { overlay.add_contour_in_tile(ShapeType::Subject, rectangle(0, 0, 6, 6), {4, 2, 4, 5}); }) == FADRINZO_BAD_ARGUMENT);
+}
+
 void check_moves()
 {
     Overlay first = two_squares();
@@ -372,6 +382,7 @@ int main()
     check_relations();
     check_split();
     check_refusals();
+    check_tile();
     check_moves();
     return 0;
 }

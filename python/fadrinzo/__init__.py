@@ -119,6 +119,8 @@ def _load():
         "free": (None, [handle]),
         "add_contour": (number, [handle, number, points, ctypes.c_size_t]),
         "add_contours": (number, [handle, number, points, ctypes.POINTER(ctypes.c_size_t), ctypes.c_size_t]),
+        "add_contour_in_tile": (number, [handle, number, points, ctypes.c_size_t, ctypes.c_void_p]),
+        "given": (number, [handle, number]),
         "add_polygon": (number, [handle, number, points, ctypes.POINTER(ctypes.c_size_t), ctypes.c_size_t]),
         "overlay_shapes": (number, [handle, number, number]),
         "overlay_by_rules": (number, [handle, ctypes.POINTER(number), ctypes.c_size_t, number]),

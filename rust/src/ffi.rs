@@ -5,7 +5,7 @@
 //! names the conditions (`requires`) of the export and says why they hold.
 
 use crate::memory::{collect, collect_all, copy, reserve};
-use crate::{DataSegment, Fault, IntContour, IntPoint, IntShape, LineSegment, OverlayLink, Segment};
+use crate::{DataSegment, Fault, IntContour, IntPoint, IntShape, LineSegment, OverlayLink, Segment, Tile};
 
 /// What holds an engine: `Handle` of `crates/overlay_c`. Null where it is empty.
 #[derive(Debug)]
@@ -135,6 +135,14 @@ extern "C" {
         boundary_included: bool,
     ) -> u8;
     fn overlay_c_add_contour(handle: &mut Handle, contour: *const IntPoint, contour_len: usize, shape: u8) -> u8;
+    fn overlay_c_add_contour_in_tile(
+        handle: &mut Handle,
+        contour: *const IntPoint,
+        contour_len: usize,
+        shape: u8,
+        borders: &Tile,
+    ) -> u8;
+    fn overlay_c_given(handle: &mut Handle, shape: u8) -> u8;
     fn overlay_c_polygons(handle: &mut Handle, settings: &Settings, rule: u8) -> u8;
     fn overlay_c_shapes(handle: &mut Handle, settings: &Settings, rule: u8) -> u8;
     fn overlay_c_polygons_by_rules(handle: &mut Handle, settings: &Settings, rules: *const u8, rules_len: usize) -> u8;
@@ -317,6 +325,19 @@ impl Engine {
     pub fn add_contour(&mut self, contour: &[IntPoint], shape: u8) -> u8 {
         // SAFETY: the handle is full. Nothing is required of points and codes.
         unsafe { overlay_c_add_contour(&mut self.handle, contour.as_ptr(), contour.len(), shape) }
+    }
+
+    /// Copies what a tile has of a contour behind the others of its shape. Returns a status.
+    pub fn add_contour_in_tile(&mut self, contour: &[IntPoint], shape: u8, tile: &Tile) -> u8 {
+        let (first, len) = (contour.as_ptr(), contour.len());
+        // SAFETY: the handle is full. Nothing is required of points, codes and borders.
+        unsafe { overlay_c_add_contour_in_tile(&mut self.handle, first, len, shape, tile) }
+    }
+
+    /// Keeps the contours of a shape that were added as those of a result, which `contours` copies out. Returns a status.
+    pub fn given(&mut self, shape: u8) -> u8 {
+        // SAFETY: the handle is full. Nothing is required of codes.
+        unsafe { overlay_c_given(&mut self.handle, shape) }
     }
 
     /// Overlays the contours that were added. Returns a status.

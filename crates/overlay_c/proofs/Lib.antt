@@ -7,5 +7,6 @@ pub mod Overlays
 pub mod Refusals
 pub mod RegionRelations
 pub mod Steps
+pub mod Ranges
 pub mod Usable
 pub mod Values

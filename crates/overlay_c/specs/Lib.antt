@@ -10,4 +10,5 @@ pub mod Regions
 pub mod Relations
 pub mod Status
 pub mod Tags
+pub mod Tiles
 pub mod Widths

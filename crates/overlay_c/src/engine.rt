@@ -3,7 +3,9 @@ ghost use Rattle.std.specs.Prelude.{◌≡◌, ◌↔◌, ◌<◌, ◌∷◌, �
 ghost use Rattle.overlay_c.specs.Calls.{KeepsRulesBy, SameResult, HasArrangement, HasNoArrangement, MaySplit, MayNotSplit, MaySplitLines, MayNotSplitLines};
 ghost use Rattle.overlay_c.specs.Status.{OnUnusable, OnTooLarge};
 
-use crate::contours::{PointRecord, keep_contours, keep_shapes, load_points, location_code, point};
+use crate::contours::{
+    PointRecord, are_in_range, keep_contours, keep_shapes, load_points, location_code, point,
+};
 use crate::cores::Core;
 use crate::lines;
 use crate::records::{
@@ -26,6 +28,8 @@ use overlay_geometry::geom::point::IntPoint;
 use overlay_geometry::num::OverlayInt;
 use overlay_relations::fault::RelationFault;
 use overlay_relations::region::Region;
+use overlay_tiles::clip::contour_in_tile;
+use overlay_tiles::tile::Tile;
 use std::alloc::Global;
 
 /// What is kept from one call to the next.
@@ -60,12 +64,17 @@ impl Engine {
     ghost use Rattle.overlay_c.specs.Records.{line_asked_by, told_by, line_told_by, link_by, names_narrow, number_by};
     ghost use Rattle.overlay_c.specs.Tags.{untagged, tagged_by};
     ghost use Rattle.overlay_c.specs.Widths.{least_of, greatest_of, LastKeepsSplit, IsLastArranged, LastBuildsAll, SameSegments, LastKeepsOverlay, LastKeepsData, LastKeepsClip, LastKeepsNumbers, LastStandsAfter, LastLinesStandAfter, LastIsCountRefused, LastIsCountOfLinesRefused, LastIsCountOfNumberedRefused, LastLeavesRange, SameLimits, SameOther, SameArrangements, SameLines, SameData, SameChange, LastHasNoWalks, LastHasNoGraph, LastTellsSizes, segment_count, line_count, link_count, segments_in, lines_in, has_changed_in, links_in, link_data_in, line_counts_in, line_numbers_in, degrees_in, indexes_in, walk_lengths_in, walk_links_in};
+    ghost use Rattle.overlay_base.specs.declared.segm.fault.Fault.TheVariants.{Memory};
     ghost use Rattle.overlay_base.specs.declared.segm.shape_type.ShapeType.TheVariants.{Subject, Clip};
+    ghost use Rattle.overlay_c.specs.declared.refusal.Refusal.TheVariants.{Refused};
     ghost use Rattle.overlay_contours.specs.Kept.{passes_of, reach_of};
     ghost use Rattle.overlay_contours.specs.Refusals.{other_shape};
     ghost use Rattle.overlay_c.specs.Contours.{point_by, are_in_range, location_code, contours_in, IsPointRefusal, IsPolygonRefusal};
     ghost use Rattle.overlay_c.specs.Contours.{KeepsPolygons, KeepsShapes, SameSplit, SameReport};
     ghost use Rattle.overlay_c.specs.Records.{fill_rule_of};
+    ghost use Rattle.overlay_c.specs.Tiles.{KeepsGiven};
+    ghost use Rattle.overlay_tiles.specs.TileOf.{tile_of};
+    ghost use Rattle.overlay_tiles.specs.Tiles.{in_tile};
     ghost use Rattle.overlay_c.specs.Matrices.{IsMatrixBy};
     ghost use Rattle.overlay_c.specs.Relations.{Holds, IsRelationRefusal};
     ghost use Rattle.overlay_c.specs.Regions.{SameRegions, AddsRegion, IsShapeRefusal, HoldsOfRegionsAt, IsMatrixOfRegionsAt, IsRegionsRefusal};
@@ -479,6 +488,55 @@ impl Engine {
     {
         load_points(contour, &mut self.points)?;
         self.polygons.add_contour(&self.points, shape_type)?;
+        Ok(())
+    }
+
+    /// Copies what a tile has of a contour behind the others of its shape, if all points of the contour are in range. Else,
+    /// and where a growth is refused, nothing is added.
+    pub fn add_contour_in_tile(
+        &mut self,
+        alloc: Global,
+        contour: &[PointRecord],
+        shape_type: ShapeType,
+        tile: &Tile<i32>,
+    ) -> Result<(), Refusal>
+        ensures added { OnOk result (contours_in self.new shape_type ≡ contours_in self.old shape_type
+            ++ in_tile (tile_of (λ z. z) tile.now) (map point_by contour.now ∷ [])) }
+        ensures unchanged { OnErr result (contours_in self.new shape_type ≡ contours_in self.old shape_type) }
+        ensures other { contours_in self.new (other_shape shape_type)
+            ≡ contours_in self.old (other_shape shape_type) }
+        ensures in_range { OnOk result (IsTrue (are_in_range contour.now)) }
+        ensures refused { IfErr result (λ refusal. IsPointRefusal contour.now refusal) }
+        ensures rest { SameSplit self.old self.new }
+        ensures report { SameReport self.old self.new }
+        ensures arrangement { self.new.arrangement ≡ self.old.arrangement }
+        ensures result { SameResult self.old self.new }
+    {
+        load_points(contour, &mut self.points)?;
+        if !are_in_range(&self.points) {
+            return Err(Refusal::OutOfRange);
+        }
+        let Some(points) = contour_in_tile(alloc, tile, &self.points)? else {
+            return Ok(());
+        };
+        self.polygons.add_contour(&points, shape_type)?;
+        Ok(())
+    }
+
+    /// Keeps the contours of a shape that were added as those of a result.
+    pub fn given(&mut self, shape_type: ShapeType) -> Result<(), Refusal>
+        ensures kept { OnOk result (KeepsGiven shape_type self.new) }
+        ensures refused { IfErr result (λ refusal. refusal ≡ Refused Memory) }
+        ensures contours { self.new.polygons ≡ self.old.polygons }
+        ensures rest { SameSplit self.old self.new }
+        ensures arrangement { self.new.arrangement ≡ self.old.arrangement }
+    {
+        self.shape_lengths.clear();
+        keep_contours(
+            self.polygons.contours(shape_type),
+            &mut self.contour_lengths,
+            &mut self.contour_points,
+        )?;
         Ok(())
     }
 

@@ -22,6 +22,7 @@ ghost use Rattle.overlay_c.specs.Matrices.{IsMatrixBy};
 ghost use Rattle.overlay_c.specs.Relations.{relation_of, Holds, ShapeCountsLeaveRange, IsRelationCode, IsRegionCode};
 ghost use Rattle.overlay_c.specs.Regions.{SameRegions, AddsRegion, CountsOfShapeLeaveRange, HoldsOfRegionsAt, IsMatrixOfRegionsAt, CountsOfRegionsLeaveRange};
 ghost use Rattle.overlay_relations.specs.Boundaries.{has_inexact_crossing};
+ghost use Rattle.overlay_c.specs.Tiles.{MakesTile, AddsInTile, IsAddInTileCode, KeepsGiven};
 ghost use Rattle.overlay_relations.specs.Refusals.{IsNotExact};
 
 pub mod contours;
@@ -36,6 +37,7 @@ pub mod refusal;
 pub mod regions;
 pub mod relations;
 pub mod tags;
+pub mod tiles;
 pub mod width;
 
 use crate::contours::PointRecord;
@@ -49,6 +51,7 @@ use crate::records::{
 use crate::refusal::{Refusal, status};
 use crate::relations::{MatrixRecord, fault_code, named_relation};
 use crate::tags::{Tag, TaggedRecord};
+use crate::tiles::{TileRecord, tile};
 use overlay_base::overlay_core::clip_rule::ClipRule;
 use std::alloc::Global;
 
@@ -370,6 +373,66 @@ pub extern "C" fn overlay_c_add_contour(
 {
     let mut engine = take(alloc, handle);
     let outcome = engine.add_contour(contour, shape_type(shape));
+    put(handle, engine);
+    status(outcome)
+}
+
+/// Copies what a tile has of a contour behind the others of the subject, where the shape's code is 0, or else of the clip:
+/// the contour, cut and clamped to the tile, or nothing where it lies beside it. What was added winds around each point of
+/// the tile as the given contours, if it is farther than half a unit from every given step that runs along no axis.
+///
+/// So the overlays that follow return the part of the overlay that belongs to the tile. By snap rounding it is right at
+/// each point of the tile that is farther than a whole unit from these steps, and all its points lie in the tile.
+///
+/// Returns 0 where it is done; else nothing is added: 1 where memory was refused, 4 where a point is out of range, 5 where
+/// the record has no tile, also where a point is out of range.
+#[unsafe(no_mangle)]
+pub extern "C" fn overlay_c_add_contour_in_tile(
+    alloc: Global,
+    handle: &mut Handle,
+    contour: &[PointRecord],
+    shape: u8,
+    borders: &TileRecord,
+) -> u8
+    requires { IsSome handle.old.engine }
+    ensures full { IsSome handle.new.engine }
+    ensures added { result ≡ 0 → Turns handle.old handle.new (AddsInTile (shape_of shape) borders.now contour.now) }
+    ensures unchanged { result ≢ 0 → Turns handle.old handle.new (SameShape (shape_of shape)) }
+    ensures other { Turns handle.old handle.new (SameShape (other_shape (shape_of shape))) }
+    ensures in_range { result ≡ 0 → IsTrue (are_in_range contour.now) }
+    ensures out_of_range { result ≡ 4 → IsFalse (are_in_range contour.now) }
+    ensures is_tile { result ≢ 5 → MakesTile borders.now }
+    ensures no_tile { result ≡ 5 → MakesTile borders.now → ⊥ }
+    ensures rest { Turns handle.old handle.new SameSplit }
+    ensures report { Turns handle.old handle.new SameReport }
+    ensures arrangement { Turns handle.old handle.new StaysAsArranged }
+    ensures result { Turns handle.old handle.new SameResult }
+    ensures codes { IsAddInTileCode result }
+{
+    let Ok(tile) = tile(borders) else {
+        return 5;
+    };
+    let mut engine = take(alloc, handle);
+    let outcome = engine.add_contour_in_tile(alloc, contour, shape_type(shape), &tile);
+    put(handle, engine);
+    status(outcome)
+}
+
+/// Keeps the contours of a shape that were added, in that order, as those of a result in no shapes: `overlay_c_contours` then
+/// copies them out. So what a tile has of contours can be handed to another process. Returns 0 where it is done, and 1
+/// where memory was refused. The contours that were added stay.
+#[unsafe(no_mangle)]
+pub extern "C" fn overlay_c_given(alloc: Global, handle: &mut Handle, shape: u8) -> u8
+    requires { IsSome handle.old.engine }
+    ensures full { IsSome handle.new.engine }
+    ensures done { result ≡ 0 → IfSome handle.new.engine (KeepsGiven (shape_of shape)) }
+    ensures codes { result < 2 }
+    ensures contours { Turns handle.old handle.new SameContours }
+    ensures rest { Turns handle.old handle.new SameSplit }
+    ensures arrangement { Turns handle.old handle.new StaysAsArranged }
+{
+    let mut engine = take(alloc, handle);
+    let outcome = engine.given(shape_type(shape));
     put(handle, engine);
     status(outcome)
 }
