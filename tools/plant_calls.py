@@ -101,7 +101,7 @@ PLANTS = [
     Plant("boxes that touch are apart in Python", RELATED, "bounds[2] >= west", "bounds[2] > west", "test_related"),
     Plant("floats are cut", RUST + "float.rs", "(point[axis] - center[axis]) * scale).round()", "(point[axis] - center[axis]) * scale).trunc()"),
     Plant("parts are joined where the line left", RUST + "clip.rs", "(is_open || index > 0) &&", "(is_open || index < 9) &&", "clip_lines"),
-    Plant("an engine that was not made is freed", RUST + "ffi.rs", "is_full.then(|| Engine { handle })", "is_full.then_some(Engine { handle })", "memory"),
+    Plant("an engine that was not made is freed", RUST + "ffi.rs", "is_full.then(|| Engine { handle, regions: 0 })", "is_full.then_some(Engine { handle, regions: 0 })", "memory"),
     Plant("only shapes along borders reach other tiles", RUST + "tiled.rs", "any(|point| seams.have(point))", "all(|point| seams.have(point))", "tiled"),
     Plant("a refused tile stops none", RUST + "tiled.rs", "self.stopped.store(true,", "self.stopped.store(false,", "memory"),
     Plant("a run of points is turned", RUST + "tiling.rs", "extend(buffer, [*first, *last])?", "extend(buffer, [*last, *first])?", "tiled"),
