@@ -13,6 +13,8 @@ struct fadrinzo {
     size_t *shape_starts;
     fadrinzo_segment *segments;
     size_t segment_count;
+    /* how many regions the engine keeps */
+    size_t regions;
 };
 
 uint32_t fadrinzo_version(void)
@@ -27,7 +29,7 @@ const char *fadrinzo_text(int status)
     case FADRINZO_NO_MEMORY: return "there is not enough memory";
     case FADRINZO_COUNT_OUT_OF_RANGE: return "the contours wind more than 2147483647 times around a point";
     case FADRINZO_POINT_OUT_OF_RANGE: return "a coordinate is outside of -1073741824 to 1073741823";
-    case FADRINZO_BAD_ARGUMENT: return "a pointer is null, no contours are arranged, a segment has no length or no count, or there is no such shape, rule, fill rule, relation or rounding";
+    case FADRINZO_BAD_ARGUMENT: return "a pointer is null, no contours are arranged, a segment has no length or no count, or there is no such shape, rule, fill rule, relation, region or rounding";
     case FADRINZO_SUBJECT_NOT_EXACT: return "two edges of the subject cross at a point without integer coordinates";
     case FADRINZO_CLIP_NOT_EXACT: return "two edges of the clip cross at a point without integer coordinates";
     default: return "there is no such status";
@@ -80,6 +82,9 @@ fadrinzo_status fadrinzo_clear(fadrinzo *overlay)
     return FADRINZO_OK;
 }
 
+/* What an export returns where a box is no tile. */
+enum { NO_TILE = 5 };
+
 static int is_shape(int shape)
 {
     return shape == FADRINZO_SUBJECT || shape == FADRINZO_CLIP;
@@ -90,6 +95,16 @@ fadrinzo_status fadrinzo_add_contour(fadrinzo *overlay, int shape, const int32_t
     if (!overlay || (!xy && points) || !is_shape(shape))
         return FADRINZO_BAD_ARGUMENT;
     return (fadrinzo_status)overlay_c_add_contour(&overlay->handle, (const fadrinzo_point *)xy, points, (uint8_t)shape);
+}
+
+fadrinzo_status fadrinzo_add_contour_in_tile(fadrinzo *overlay, int shape, const int32_t *xy, size_t points, const fadrinzo_box *tile)
+{
+    if (!overlay || (!xy && points) || !is_shape(shape) || !tile)
+        return FADRINZO_BAD_ARGUMENT;
+    fadrinzo_tile borders = {.min_x = tile->min_x, .min_y = tile->min_y, .max_x = tile->max_x, .max_y = tile->max_y};
+    const fadrinzo_point *first = (const fadrinzo_point *)xy;
+    uint8_t status = overlay_c_add_contour_in_tile(&overlay->handle, first, points, (uint8_t)shape, &borders);
+    return status == NO_TILE ? FADRINZO_BAD_ARGUMENT : (fadrinzo_status)status;
 }
 
 /* Whether points are in range. */
@@ -261,6 +276,15 @@ static fadrinzo_settings settings_for(int fill_rule)
     return (fadrinzo_settings){.progression = 1, .strategy = 3, .fill_rule = (uint8_t)fill_rule};
 }
 
+fadrinzo_status fadrinzo_given(fadrinzo *overlay, int shape)
+{
+    if (!overlay || !is_shape(shape))
+        return refuse(overlay);
+    drop_result(overlay);
+    fadrinzo_status status = (fadrinzo_status)overlay_c_given(&overlay->handle, (uint8_t)shape);
+    return status == FADRINZO_OK ? keep_result(overlay, 0) : status;
+}
+
 typedef uint8_t overlay_call(fadrinzo_handle *handle, const fadrinzo_settings *settings, uint8_t rule);
 
 static fadrinzo_status make(fadrinzo *overlay, int rule, int fill_rule, overlay_call *call)
@@ -348,6 +372,14 @@ fadrinzo_location fadrinzo_locate(fadrinzo *overlay, int shape, int fill_rule, i
     return code > FADRINZO_OUTSIDE ? FADRINZO_OUTSIDE : (fadrinzo_location)code;
 }
 
+/* Writes whether a relation holds, unless the call was refused. */
+static fadrinzo_status write_holds(uint8_t status, bool found, int *holds)
+{
+    if (status == FADRINZO_OK)
+        *holds = found;
+    return (fadrinzo_status)status;
+}
+
 fadrinzo_status fadrinzo_relation(fadrinzo *overlay, int relation, int fill_rule, int *holds)
 {
     if (!overlay || !holds || !is_relation(relation) || !is_fill_rule(fill_rule))
@@ -355,9 +387,17 @@ fadrinzo_status fadrinzo_relation(fadrinzo *overlay, int relation, int fill_rule
     fadrinzo_settings settings = settings_for(fill_rule);
     bool found = false;
     uint8_t status = overlay_c_relation(&overlay->handle, &settings, (uint8_t)relation, &found);
-    if (status == FADRINZO_OK)
-        *holds = found;
-    return (fadrinzo_status)status;
+    return write_holds(status, found, holds);
+}
+
+/* Writes the letters of a matrix. */
+static void write_letters(const fadrinzo_matrix *m, char letters[10])
+{
+    const bool entries[9] = {m->interior_interior, m->interior_boundary, m->interior_exterior, m->boundary_interior, m->boundary_boundary,
+                             m->boundary_exterior, m->exterior_interior, m->exterior_boundary, m->exterior_exterior};
+    for (size_t i = 0; i < 9; i++)
+        letters[i] = entries[i] ? 'T' : 'F';
+    letters[9] = 0;
 }
 
 fadrinzo_status fadrinzo_relate(fadrinzo *overlay, int fill_rule, char letters[10])
@@ -367,14 +407,42 @@ fadrinzo_status fadrinzo_relate(fadrinzo *overlay, int fill_rule, char letters[1
     fadrinzo_settings settings = settings_for(fill_rule);
     fadrinzo_matrix m = {0};
     uint8_t status = overlay_c_relate(&overlay->handle, &settings, &m);
-    if (status != FADRINZO_OK)
-        return (fadrinzo_status)status;
-    const bool entries[9] = {m.interior_interior, m.interior_boundary, m.interior_exterior, m.boundary_interior, m.boundary_boundary,
-                             m.boundary_exterior, m.exterior_interior, m.exterior_boundary, m.exterior_exterior};
-    for (size_t i = 0; i < 9; i++)
-        letters[i] = entries[i] ? 'T' : 'F';
-    letters[9] = 0;
-    return FADRINZO_OK;
+    if (status == FADRINZO_OK)
+        write_letters(&m, letters);
+    return (fadrinzo_status)status;
+}
+
+fadrinzo_status fadrinzo_add_region(fadrinzo *overlay, int fill_rule, size_t *number)
+{
+    if (!overlay || !number || !is_fill_rule(fill_rule))
+        return FADRINZO_BAD_ARGUMENT;
+    fadrinzo_settings settings = settings_for(fill_rule);
+    uint8_t status = overlay_c_add_region(&overlay->handle, &settings);
+    if (status == FADRINZO_OK)
+        *number = overlay->regions++;
+    return (fadrinzo_status)status;
+}
+
+fadrinzo_status fadrinzo_region_relation(fadrinzo *overlay, size_t first, size_t second, int relation, int *holds)
+{
+    if (!overlay || !holds || !is_relation(relation) || first >= overlay->regions || second >= overlay->regions)
+        return FADRINZO_BAD_ARGUMENT;
+    fadrinzo_settings settings = settings_for(FADRINZO_FILL_NON_ZERO);
+    bool found = false;
+    uint8_t status = overlay_c_region_relation(&overlay->handle, &settings, first, second, (uint8_t)relation, &found);
+    return write_holds(status, found, holds);
+}
+
+fadrinzo_status fadrinzo_region_relate(fadrinzo *overlay, size_t first, size_t second, char letters[10])
+{
+    if (!overlay || !letters || first >= overlay->regions || second >= overlay->regions)
+        return FADRINZO_BAD_ARGUMENT;
+    fadrinzo_settings settings = settings_for(FADRINZO_FILL_NON_ZERO);
+    fadrinzo_matrix m = {0};
+    uint8_t status = overlay_c_region_relate(&overlay->handle, &settings, first, second, &m);
+    if (status == FADRINZO_OK)
+        write_letters(&m, letters);
+    return (fadrinzo_status)status;
 }
 
 /* What the exports return where segments may not be split: an end is out of range, or a segment has no length or no count. */

@@ -106,7 +106,7 @@ typedef struct {
 /* The result of the last overlay: points as x, y, x, y, .., contour after contour, and contours shape after shape. Contour i has the
    points from contour_starts[i] to before contour_starts[i + 1], and shape i the contours from shape_starts[i] to before
    shape_starts[i + 1], its outer boundary first. There are no shapes after fadrinzo_overlay. All is valid until the next call
-   on the overlay but fadrinzo_locate, fadrinzo_relation and fadrinzo_relate. */
+   on the overlay but fadrinzo_locate and those on relations and regions. */
 typedef struct {
     const int32_t *xy;
     const size_t *contour_starts;
@@ -142,6 +142,23 @@ fadrinzo_status fadrinzo_add_contour(fadrinzo *overlay, int shape, const int32_t
 /* Adds so many contours, as fadrinzo_add_contour adds each: contour i has lengths[i] points, behind those of the contours before it. If a point
    is out of range nothing is added; if there is no memory the contours before are. */
 fadrinzo_status fadrinzo_add_contours(fadrinzo *overlay, int shape, const int32_t *xy, const size_t *lengths, size_t contours);
+
+/* A rectangle that is wider and higher than 0. Its left and its upper border belong to it. */
+typedef struct {
+    int32_t min_x;
+    int32_t min_y;
+    int32_t max_x;
+    int32_t max_y;
+} fadrinzo_box;
+
+/* Adds what a box, a tile of the plane, has of a contour: the contour, cut and clamped to it, or nothing where it lies beside it. So what follows
+   is the part of the overlay that belongs to the tile. It is right at each point of the tile that is farther than a whole unit from every
+   given edge along no axis, and all of it lies in the tile. FADRINZO_BAD_ARGUMENT if the box is null, is not wider and higher than 0, or has a
+   border out of range. Many threads can make parts, each with an overlay of its own. */
+fadrinzo_status fadrinzo_add_contour_in_tile(fadrinzo *overlay, int shape, const int32_t *xy, size_t points, const fadrinzo_box *tile);
+
+/* Makes the contours of a shape that were added the result, in their order, as far as tiles have them. */
+fadrinzo_status fadrinzo_given(fadrinzo *overlay, int shape);
 
 /* Adds a polygon of so many rings to the subject or to the clip: ring i has lengths[i] points, behind those of the rings before it. The
    first ring is the outer boundary, and the others are holes. Rings may run either way: the outer boundary is turned counterclockwise
@@ -186,6 +203,17 @@ fadrinzo_status fadrinzo_relation(fadrinzo *overlay, int relation, int fill_rule
    FADRINZO_OK letters has nine letters, row by row for the parts of the subject, and a last 0: T if some point is in both parts, and F
    if none is. Else it is unchanged. Other statuses are those of fadrinzo_relation. */
 fadrinzo_status fadrinzo_relate(fadrinzo *overlay, int fill_rule, char letters[10]);
+
+/* Prepares the region of the subject that was added for relations to others, and keeps it: until the overlay is freed, whatever is added or
+   dropped. After FADRINZO_OK number is its number, from 0, else it is unchanged. FADRINZO_SUBJECT_NOT_EXACT as of fadrinzo_relation. */
+fadrinzo_status fadrinzo_add_region(fadrinzo *overlay, int fill_rule, size_t *number);
+
+/* Whether a relation holds between two regions, by their numbers: as of fadrinzo_relation, for a subject and a clip that have them. The work
+   that depends on one region alone is not done again. FADRINZO_BAD_ARGUMENT if there is no region with a number. */
+fadrinzo_status fadrinzo_region_relation(fadrinzo *overlay, size_t first, size_t second, int relation, int *holds);
+
+/* Which parts of two regions meet, by their numbers, as of fadrinzo_relate. */
+fadrinzo_status fadrinzo_region_relate(fadrinzo *overlay, size_t first, size_t second, char letters[10]);
 
 /* Splits so many segments into a planar arrangement: of those that are left every two share at most a common end, and segments on the
    same two ends are one, with the sum of their counts. fadrinzo_get_edges returns them. Contours and the result of the last overlay stay.

@@ -88,6 +88,9 @@ struct Edge {
     std::int32_t clip = 0;
 };
 
+/* A rectangle that is wider and higher than 0, for a tile: from its left and lower to its right and upper border. */
+using Box = fadrinzo_box;
+
 /* The shape to which a contour is added. */
 enum class ShapeType { Subject = FADRINZO_SUBJECT, Clip = FADRINZO_CLIP };
 
@@ -278,6 +281,23 @@ public:
     template <class Contours, std::enable_if_t<!detail::is_rings<Contours>, int> = 0> void add_contours(ShapeType, const Contours &) = delete;
     void add_contours(ShapeType shape, const std::vector<Contour> &contours) { add_contours<std::vector<Contour>>(shape, contours); }
 
+    /* Adds what a box, a tile of the plane, has of a contour: what follows is the part of the overlay that belongs to the tile. */
+    template <class Points, std::enable_if_t<detail::is_points<Points>, int> = 0> void add_contour_in_tile(ShapeType shape, const Points &points, const Box &tile)
+    {
+        std::vector<std::int32_t> xy;
+        std::size_t count = detail::append(xy, points);
+        detail::check(fadrinzo_add_contour_in_tile(handle(), static_cast<int>(shape), xy.data(), count, &tile));
+    }
+    template <class Points, std::enable_if_t<!detail::is_points<Points>, int> = 0> void add_contour_in_tile(ShapeType, const Points &, const Box &) = delete;
+    void add_contour_in_tile(ShapeType shape, const Contour &points, const Box &tile) { add_contour_in_tile<Contour>(shape, points, tile); }
+
+    /* The contours of a shape that were added, as far as tiles have them. */
+    std::vector<Contour> given(ShapeType shape)
+    {
+        detail::check(fadrinzo_given(handle(), static_cast<int>(shape)));
+        return all_contours();
+    }
+
     /* Adds a polygon of rings that run either way, the outer boundary first: a shape of a result, or other rings of points. */
     template <class Rings, std::enable_if_t<detail::is_rings<Rings>, int> = 0> void add_polygon(ShapeType shape, const Rings &rings)
     {
@@ -354,6 +374,30 @@ public:
     {
         char letters[10];
         detail::check(fadrinzo_relate(handle(), static_cast<int>(fill_rule), letters));
+        return letters;
+    }
+
+    /* Prepares the region of the subject that was added for relations to others, and returns its number. It is kept with the overlay. */
+    std::size_t add_region(FillRule fill_rule)
+    {
+        std::size_t number = 0;
+        detail::check(fadrinzo_add_region(handle(), static_cast<int>(fill_rule), &number));
+        return number;
+    }
+
+    /* Whether a relation holds between two regions, by their numbers. Error, with FADRINZO_BAD_ARGUMENT, if there is no such region. */
+    bool region_relation(std::size_t first, std::size_t second, Relation relation) const
+    {
+        int holds = 0;
+        detail::check(fadrinzo_region_relation(handle(), first, second, static_cast<int>(relation), &holds));
+        return holds != 0;
+    }
+
+    /* Which parts of two regions meet, by their numbers, as relate returns it. */
+    std::string region_relate(std::size_t first, std::size_t second) const
+    {
+        char letters[10];
+        detail::check(fadrinzo_region_relate(handle(), first, second, letters));
         return letters;
     }
 

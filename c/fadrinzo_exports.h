@@ -168,6 +168,18 @@ typedef struct {
     bool exterior_exterior;
 } fadrinzo_matrix;
 
+/* The borders of a tile: a rectangle with whole corners in range that is wider and higher than 0. */
+typedef struct {
+    /* The left border, which belongs to the tile. */
+    int32_t min_x;
+    /* The lower border, which does not. */
+    int32_t min_y;
+    /* The right border, which does not. */
+    int32_t max_x;
+    /* The upper border, which belongs to it. */
+    int32_t max_y;
+} fadrinzo_tile;
+
 /* Makes an engine, in an empty handle. Returns whether there was memory. */
 bool overlay_c_new(fadrinzo_handle *handle, uint32_t snap_limit);
 
@@ -212,6 +224,20 @@ uint8_t overlay_c_clip_with_numbers(fadrinzo_handle *handle, const fadrinzo_line
 /* Copies a contour behind the others of the subject, where the shape's code is 0, or else of the clip. Returns 0
    where it is added; else nothing is: 1 where memory was refused, 4 where a point is out of range. */
 uint8_t overlay_c_add_contour(fadrinzo_handle *handle, const fadrinzo_point *contour, size_t contour_len, uint8_t shape);
+
+/* Copies what a tile has of a contour behind the others of the subject, where the shape's code is 0, or else of the
+   clip: the contour, cut and clamped to the tile, or nothing where it lies beside it. What was added winds around
+   each point of the tile as the given contours, if it is farther than half a unit from every given step that runs
+   along no axis. So the overlays that follow return the part of the overlay that belongs to the tile. By snap
+   rounding it is right at each point of the tile that is farther than a whole unit from these steps, and all its
+   points lie in the tile. Returns 0 where it is done; else nothing is added: 1 where memory was refused, 4 where a
+   point is out of range, 5 where the record has no tile, also where a point is out of range. */
+uint8_t overlay_c_add_contour_in_tile(fadrinzo_handle *handle, const fadrinzo_point *contour, size_t contour_len, uint8_t shape, const fadrinzo_tile *borders);
+
+/* Keeps the contours of a shape that were added, in that order, as those of a result in no shapes:
+   overlay_c_contours then copies them out. So what a tile has of contours can be handed to another process. Returns
+   0 where it is done, and 1 where memory was refused. The contours that were added stay. */
+uint8_t overlay_c_given(fadrinzo_handle *handle, uint8_t shape);
 
 /* The overlay of the contours that were added, as contours that have it on their left: outer boundaries run
    counterclockwise, and holes clockwise. Returns 0 where it is done, 1 where memory was refused, and 2 where a
@@ -266,6 +292,22 @@ uint8_t overlay_c_relation(fadrinzo_handle *handle, const fadrinzo_settings *set
    near to it. Of the settings it takes the strategy and the fill rule. Returns as overlay_c_relation does; after
    any other code than 0 matrix is unchanged. */
 uint8_t overlay_c_relate(fadrinzo_handle *handle, const fadrinzo_settings *settings, fadrinzo_matrix *matrix);
+
+/* Prepares the region of the subject that was added, under the fill rule of the settings, for relations to others,
+   and keeps it behind those that are kept. Its number is how many were kept before, from 0. The contours that were
+   added stay. Returns 0 where it is done, 1 where memory was refused, 2 where a count left the range, and 6 where
+   two edges of the subject cross at a point without integer coordinates. After any other code than 0 the regions
+   are those that were kept before. */
+uint8_t overlay_c_add_region(fadrinzo_handle *handle, const fadrinzo_settings *settings);
+
+/* Whether a relation holds between two regions that are kept, by their numbers and the code of overlay_c_relation,
+   exactly. Of the settings it takes the strategy. Returns 0 where holds says whether it does, 1 where memory was
+   refused, and 2 where a count left the range. After any other code than 0 holds is unchanged. */
+uint8_t overlay_c_region_relation(fadrinzo_handle *handle, const fadrinzo_settings *settings, size_t first, size_t second, uint8_t code, bool *holds);
+
+/* Which parts of two regions that are kept meet, by their numbers, exactly, as overlay_c_relate returns it. Returns
+   as overlay_c_region_relation does; after any other code than 0 matrix is unchanged. */
+uint8_t overlay_c_region_relate(fadrinzo_handle *handle, const fadrinzo_settings *settings, size_t first, size_t second, fadrinzo_matrix *matrix);
 
 /* What the last overlay of contours, in shapes or not, reports of its run: how many passes it made, and how far
    these moved edges. What such an overlay leaves holds at every place that is farther than this from the edges of

@@ -79,6 +79,15 @@ static fadrinzo_status arranged(fadrinzo *overlay)
     return status ? status : fadrinzo_arranged_shapes(overlay, FADRINZO_RULE_UNION, 0);
 }
 
+static fadrinzo_status in_tile(fadrinzo *overlay)
+{
+    static const fadrinzo_box tile = {2, -3, 9, 6};
+    fadrinzo_clear(overlay);
+    fadrinzo_status status = fadrinzo_add_contour_in_tile(overlay, FADRINZO_SUBJECT, square, 4, &tile);
+    status = status ? status : fadrinzo_add_contour_in_tile(overlay, FADRINZO_SUBJECT, triangle, 3, &tile);
+    return status ? status : fadrinzo_given(overlay, FADRINZO_SUBJECT);
+}
+
 static fadrinzo_status split(fadrinzo *overlay)
 {
     static const fadrinzo_edge edges[] = {{0, 0, 5, 5, 1, 0}, {0, 5, 5, 0, 1, 0}, {-7, 3, 9, 2, 0, 1}};
@@ -146,7 +155,7 @@ int main(void)
         if (!was_refused)
             break;
     }
-    static call *const calls[] = {overlay_contours, overlay_shapes, by_rules, arranged};
+    static call *const calls[] = {overlay_contours, overlay_shapes, by_rules, arranged, in_tile};
     refused += try_each(add, 0);
     refused += try_each(split, 0);
     for (size_t i = 0; i < sizeof calls / sizeof *calls; i++)

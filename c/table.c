@@ -331,6 +331,71 @@ static void check_many_contours(void)
     fadrinzo_free(many);
 }
 
+/* How often a result winds around the middle of a unit square. */
+static int winding_of(fadrinzo_result found, int x, int y)
+{
+    int winds = 0;
+    for (size_t i = 0; i < found.contours; i++)
+        winds += winding(found.xy + 2 * found.contour_starts[i], found.contour_starts[i + 1] - found.contour_starts[i], x, y);
+    return winds;
+}
+
+static void add_in_tile(fadrinzo *overlay, const fadrinzo_box *tile)
+{
+    for (size_t i = 0; i < given_count; i++)
+        CHECK(fadrinzo_add_contour_in_tile(overlay, given[i].shape, given[i].xy, given[i].points, tile) == FADRINZO_OK, "contour %zu", i);
+}
+
+/* What a tile has of contours winds in it as they do; by the rule at an index its part winds there as the rule says, and outside as
+   where it holds for no contour. */
+static void check_tile(const fadrinzo_box *tile, int index, int fill_rule)
+{
+    fadrinzo *overlay = fadrinzo_new();
+    CHECK(overlay, "memory");
+    add_in_tile(overlay, tile);
+    for (int shape = 0; shape < 2; shape++) {
+        CHECK(fadrinzo_given(overlay, shape) == FADRINZO_OK && !fadrinzo_get(overlay).shapes, "shape %d", shape);
+        for (int x = tile->min_x; x < tile->max_x; x++)
+            for (int y = tile->min_y; y < tile->max_y; y++)
+                CHECK(winding_of(fadrinzo_get(overlay), x, y) == winding_of_given(shape, x, y), "shape %d, at %d %d", shape, x, y);
+    }
+    CHECK(fadrinzo_overlay(overlay, code_of(index), fill_rule) == FADRINZO_OK, "rule %d", index);
+    for (int x = -2; x < SPAN + 2; x++)
+        for (int y = -2; y < SPAN + 2; y++) {
+            int is_in = tile->min_x <= x && x < tile->max_x && tile->min_y <= y && y < tile->max_y;
+            int s = is_in && is_inside(fill_rule, winding_of_given(FADRINZO_SUBJECT, x, y));
+            int c = is_in && is_inside(fill_rule, winding_of_given(FADRINZO_CLIP, x, y));
+            int wanted = holds(index, s, c) - holds(index, 0, 0);
+            CHECK(winding_of(fadrinzo_get(overlay), x, y) == wanted, "rule %d, fill %d, at %d %d", index, fill_rule, x, y);
+        }
+    fadrinzo_free(overlay);
+}
+
+/* Tiles inside, across and beside the squares, and boxes that are none. */
+static void check_tiles(void)
+{
+    static const fadrinzo_box tiles[] = {{3, 2, 11, 7}, {-5, -5, 9, 30}, {12, 9, 20, 17}, {0, 0, 20, 20}, {21, 0, 22, 24}};
+    given = squares;
+    given_count = 6;
+    for (size_t i = 0; i < sizeof tiles / sizeof *tiles; i++)
+        for (int fill_rule = 0; fill_rule < FILLS; fill_rule++)
+            for (int index = 0; index < RULES; index++)
+                check_tile(&tiles[i], index, fill_rule);
+    static const fadrinzo_box none[] = {{0, 0, 0, 4}, {0, 4, 4, 4}, {4, 0, 0, 4}, {0, 0, 4, FADRINZO_MAX_COORD + 1}, {FADRINZO_MIN_COORD - 1, 0, 4, 4}};
+    fadrinzo *overlay = fadrinzo_new();
+    CHECK(overlay, "memory");
+    for (size_t i = 0; i < sizeof none / sizeof *none; i++)
+        CHECK(fadrinzo_add_contour_in_tile(overlay, 0, squares[0].xy, 4, &none[i]) == FADRINZO_BAD_ARGUMENT, "box %zu", i);
+    CHECK(fadrinzo_add_contour_in_tile(overlay, 0, squares[0].xy, 4, NULL) == FADRINZO_BAD_ARGUMENT, "null");
+    CHECK(fadrinzo_add_contour_in_tile(overlay, 2, squares[0].xy, 4, tiles) == FADRINZO_BAD_ARGUMENT, "shape 2");
+    CHECK(fadrinzo_add_contour_in_tile(NULL, 0, squares[0].xy, 4, tiles) == FADRINZO_BAD_ARGUMENT, "null");
+    static const int32_t far[4] = {0, 0, FADRINZO_MAX_COORD + 1, 0};
+    CHECK(fadrinzo_add_contour_in_tile(overlay, 0, far, 2, tiles) == FADRINZO_POINT_OUT_OF_RANGE, "a point out of range");
+    CHECK(fadrinzo_given(overlay, 0) == FADRINZO_OK && !fadrinzo_get(overlay).contours, "nothing is added");
+    CHECK(fadrinzo_given(overlay, 2) == FADRINZO_BAD_ARGUMENT && fadrinzo_given(NULL, 0) == FADRINZO_BAD_ARGUMENT, "bad arguments");
+    fadrinzo_free(overlay);
+}
+
 /* A polygon with a hole, each of its rings either way and closed or not: the hole is one. */
 static void check_polygons(void)
 {
@@ -444,6 +509,36 @@ static void check_matrix(fadrinzo *overlay, int fill_rule)
     CHECK(!strcmp(found, wanted), "fill %d: %s, not %s", fill_rule, found, wanted);
 }
 
+/* Prepares the region of the given contours of a shape, and drops the contours. Returns its number. */
+static size_t region_of_given(fadrinzo *overlay, int shape, int fill_rule)
+{
+    size_t number = SIZE_MAX;
+    for (size_t i = 0; i < given_count; i++)
+        if (given[i].shape == shape)
+            CHECK(fadrinzo_add_contour(overlay, FADRINZO_SUBJECT, given[i].xy, given[i].points) == FADRINZO_OK, "contour %zu", i);
+    CHECK(fadrinzo_add_region(overlay, fill_rule, &number) == FADRINZO_OK, "fill %d", fill_rule);
+    fadrinzo_clear(overlay);
+    return number;
+}
+
+/* Each relation of the regions of both shapes is that of the shapes, and so are the letters. */
+static void check_regions(fadrinzo *overlay, int fill_rule)
+{
+    fadrinzo *regions = fadrinzo_new();
+    CHECK(regions, "memory");
+    size_t clip = region_of_given(regions, FADRINZO_CLIP, fill_rule), subject = region_of_given(regions, FADRINZO_SUBJECT, fill_rule);
+    CHECK(clip == 0 && subject == 1, "numbers %zu and %zu", clip, subject);
+    for (int relation = 0; relation < RELATIONS; relation++) {
+        int found = -1, wanted = relation_of_given(relation, fill_rule);
+        CHECK(fadrinzo_region_relation(regions, subject, clip, relation, &found) == FADRINZO_OK, "relation %d", relation);
+        CHECK(found == wanted, "relation %d, fill %d", relation, fill_rule);
+    }
+    char wanted[10] = "", letters[10] = "unchanged";
+    CHECK(fadrinzo_relate(overlay, fill_rule, wanted) == FADRINZO_OK && fadrinzo_region_relate(regions, subject, clip, letters) == FADRINZO_OK, "letters");
+    CHECK(!strcmp(letters, wanted), "fill %d: %s, not %s", fill_rule, letters, wanted);
+    fadrinzo_free(regions);
+}
+
 /* All relations of each choice of the nested squares. */
 static void check_relations(void)
 {
@@ -460,6 +555,7 @@ static void check_relations(void)
         add_all(overlay, some, count);
         for (int fill_rule = 0; fill_rule < FILLS; fill_rule++) {
             check_matrix(overlay, fill_rule);
+            check_regions(overlay, fill_rule);
             for (int relation = 0; relation < RELATIONS; relation++) {
                 int found = -1, wanted = relation_of_given(relation, fill_rule);
                 CHECK(fadrinzo_relation(overlay, relation, fill_rule, &found) == FADRINZO_OK, "relation %d", relation);
@@ -488,6 +584,9 @@ static void check_not_exact(void)
             }
             char letters[10] = "unchanged";
             CHECK((int)fadrinzo_relate(overlay, 0, letters) == wanted && !strcmp(letters, "unchanged"), "shape %d", shape);
+            size_t number = 77;
+            int of_region = both || shape == FADRINZO_SUBJECT ? FADRINZO_SUBJECT_NOT_EXACT : FADRINZO_OK;
+            CHECK((int)fadrinzo_add_region(overlay, 0, &number) == of_region && number == (of_region ? 77 : 0), "shape %d", shape);
             fadrinzo_free(overlay);
         }
 }
@@ -530,9 +629,20 @@ static void check_codes(fadrinzo *overlay)
         CHECK(fadrinzo_relation(overlay, wrong_relations[i], 1, &found) == FADRINZO_BAD_ARGUMENT && found == -1, "code %zu", i);
     CHECK(fadrinzo_relation(overlay, 0, 4, &found) == FADRINZO_BAD_ARGUMENT && found == -1, "fill 4");
     CHECK(fadrinzo_relation(overlay, 0, 1, NULL) == FADRINZO_BAD_ARGUMENT, "null");
-    char letters[10];
+    char letters[10] = "unchanged";
     CHECK(fadrinzo_relate(overlay, 1, NULL) == FADRINZO_BAD_ARGUMENT, "null");
     CHECK(fadrinzo_relate(overlay, 4, letters) == FADRINZO_BAD_ARGUMENT && fadrinzo_relate(NULL, 1, letters) == FADRINZO_BAD_ARGUMENT, "fill 4");
+    size_t number = 77;
+    CHECK(fadrinzo_add_region(overlay, 4, &number) == FADRINZO_BAD_ARGUMENT && fadrinzo_add_region(NULL, 1, &number) == FADRINZO_BAD_ARGUMENT, "region");
+    CHECK(fadrinzo_add_region(overlay, 1, NULL) == FADRINZO_BAD_ARGUMENT && number == 77, "null");
+    CHECK(fadrinzo_add_region(overlay, 1, &number) == FADRINZO_OK && number == 0, "a region");
+    for (size_t other = 0; other < 2; other++) {
+        CHECK(fadrinzo_region_relation(overlay, other, 1 - other, 0, &found) == FADRINZO_BAD_ARGUMENT && found == -1, "no region 1");
+        CHECK(fadrinzo_region_relate(overlay, other, 1 - other, letters) == FADRINZO_BAD_ARGUMENT && !strcmp(letters, "unchanged"), "no region 1");
+    }
+    CHECK(fadrinzo_region_relation(overlay, 0, 0, RELATIONS, &found) == FADRINZO_BAD_ARGUMENT && found == -1, "code");
+    CHECK(fadrinzo_region_relation(overlay, 0, 0, 0, NULL) == FADRINZO_BAD_ARGUMENT && fadrinzo_region_relate(overlay, 0, 0, NULL) == FADRINZO_BAD_ARGUMENT, "null");
+    CHECK(fadrinzo_region_relation(NULL, 0, 0, 0, &found) == FADRINZO_BAD_ARGUMENT && fadrinzo_region_relate(NULL, 0, 0, letters) == FADRINZO_BAD_ARGUMENT, "null");
     CHECK(fadrinzo_relation(overlay, 0, 1, &found) == FADRINZO_OK && found == 0 && fadrinzo_get(overlay).contours == 1, "a relation");
     static const int wrong_shapes[] = {-1, 2, 256, 257, INT32_MIN};
     for (size_t i = 0; i < sizeof wrong_shapes / sizeof *wrong_shapes; i++) {
@@ -682,6 +792,7 @@ int main(void)
     check_middles();
     check_polygons();
     check_many_contours();
+    check_tiles();
     check_relations();
     check_not_exact();
     check_refusals();

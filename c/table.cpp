@@ -264,6 +264,16 @@ void check_relations()
         for (std::size_t i = 0; i < 6; i++)
             CHECK(overlay.relation(relations[i], FillRule::NonZero) == pair.holds[i]);
         CHECK(overlay.relate(FillRule::NonZero) == pair.letters);
+        Overlay regions;
+        const Contour contours[] = {rectangle(0, 0, 4, 4), pair.clip};
+        for (std::size_t i = 0; i < 2; i++) {
+            regions.add_contour(ShapeType::Subject, contours[i]);
+            CHECK(regions.add_region(FillRule::NonZero) == i);
+            regions.clear();
+        }
+        for (std::size_t i = 0; i < 6; i++)
+            CHECK(regions.region_relation(0, 1, relations[i]) == pair.holds[i]);
+        CHECK(regions.region_relate(0, 1) == pair.letters);
         // under Negative nothing is inside contours that run counterclockwise
         CHECK(!overlay.relation(Relation::InteriorsMeet, FillRule::Negative) && overlay.relation(Relation::SameRegion, FillRule::Negative));
     }
@@ -316,6 +326,9 @@ void check_refusals()
     CHECK(status_of([&] { overlay.locate(ShapeType::Clip, static_cast<FillRule>(66), {1, 1}); }) == FADRINZO_BAD_ARGUMENT);
     CHECK(status_of([&] { overlay.relation(static_cast<Relation>(66), fill_rule); }) == FADRINZO_BAD_ARGUMENT);
     CHECK(status_of([&] { overlay.relate(static_cast<FillRule>(66)); }) == FADRINZO_BAD_ARGUMENT);
+    CHECK(status_of([&] { overlay.add_region(static_cast<FillRule>(66)); }) == FADRINZO_BAD_ARGUMENT);
+    CHECK(status_of([&] { overlay.region_relation(0, 0, Relation::Touch); }) == FADRINZO_BAD_ARGUMENT);
+    CHECK(status_of([&] { overlay.region_relate(0, 0); }) == FADRINZO_BAD_ARGUMENT);
     CHECK(status_of([&] { overlay.split({{{1, 1}, {1, 1}}}); }) == FADRINZO_BAD_ARGUMENT);
     CHECK(status_of([] { detail::check(FADRINZO_NO_MEMORY); }) == FADRINZO_NO_MEMORY);
     CHECK(status_of([] { detail::check(FADRINZO_OK); }) == FADRINZO_OK);
@@ -325,6 +338,16 @@ void check_refusals()
     overlay.add_contour(ShapeType::Clip, {{0, 0}, {1, 1}, {1, 0}, {0, 1}});
     CHECK(status_of([&] { overlay.relation(Relation::Covers, fill_rule); }) == FADRINZO_CLIP_NOT_EXACT);
     CHECK(status_of([&] { overlay.relate(fill_rule); }) == FADRINZO_CLIP_NOT_EXACT);
+}
+
+void check_tile()
+{
+    Overlay overlay;
+    overlay.add_contour_in_tile(ShapeType::Subject, rectangle(0, 0, 6, 6), {4, 2, 9, 5});
+    overlay.add_contour_in_tile(ShapeType::Clip, {{10, 0}, {12, 0}, {12, 9}}, {4, 2, 9, 5});
+    CHECK(doubled_area(overlay.given(ShapeType::Subject)) == 2 * 2 * 3 && overlay.given(ShapeType::Clip).empty());
+    CHECK(doubled_area(overlay.overlay(OverlayRule::Xor, FillRule::NonZero)) == 2 * 2 * 3);
+    CHECK(status_of([&] { overlay.add_contour_in_tile(ShapeType::Subject, rectangle(0, 0, 6, 6), {4, 2, 4, 5}); }) == FADRINZO_BAD_ARGUMENT);
 }
 
 void check_moves()
@@ -359,6 +382,7 @@ int main()
     check_relations();
     check_split();
     check_refusals();
+    check_tile();
     check_moves();
     return 0;
 }

@@ -24,7 +24,7 @@ PREFIX = "fadrinzo_"
 PACKAGE_NAMES = {
     "Handle": "Handle", "SegmentRecord": "Segment", "LineRecord": "LineSegment", "LinkRecord": "OverlayLink", "SettingsRecord": "Settings",
     "SizesRecord": "Sizes", "WordsRecord": "Words", "ReportRecord": "Report", "PointRecord": "IntPoint", "TaggedRecord": "DataSegment",
-    "CrossRecord": "Cross", "MatrixRecord": "Matrix",
+    "CrossRecord": "Cross", "MatrixRecord": "Matrix", "TileRecord": "Tile",
 }
 
 STRUCT = re.compile(r"((?:///[^\n]*\n)+)#\[repr\(C\)\]\n(?:#\[[^\n]*\n)*pub struct (\w+) \{\n(.*?)\n\}", re.DOTALL)
@@ -50,7 +50,7 @@ def text_of(doc):
 def records():
     """Returns the records that cross, by name, each below those that it has."""
     found = {}
-    for name in ("records", "contours", "tags", "cross", "handle", "relations"):
+    for name in ("records", "contours", "tags", "cross", "handle", "relations", "tiles"):
         for doc, record, body in STRUCT.findall((SOURCES / f"{name}.rt").read_text(encoding="utf-8")):
             found[record] = Record(doc, record, body)
     return found

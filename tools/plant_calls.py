@@ -20,7 +20,8 @@ import tempfile
 ROOT = pathlib.Path(__file__).resolve().parent.parent
 ARCHIVE = ROOT / "crates/overlay_c/out/libfadrinzo_exports.a"
 FLAGS = ["-std=c11", "-O1", "-UNDEBUG"]
-C, HEADER, PYTHON, WKT, RUST = "c/fadrinzo.c", "c/fadrinzo.hpp", "python/fadrinzo/__init__.py", "python/fadrinzo/wkt.py", "rust/src/"
+C, HEADER, PYTHON, WKT, RELATED = "c/fadrinzo.c", "c/fadrinzo.hpp", "python/fadrinzo/__init__.py", "python/fadrinzo/wkt.py", "python/fadrinzo/related.py"
+RUST = "rust/src/"
 
 
 @dataclasses.dataclass(frozen=True)
@@ -47,12 +48,17 @@ PLANTS = [
     Plant("a rule of many is the first one", C, "codes[i] = (uint8_t)rules[i];", "codes[i] = (uint8_t)rules[i ? i - 1 : 0];"),
     Plant("collinear points stay", C, "call(&overlay->handle, (uint8_t)rule, corners != 0);", "call(&overlay->handle, (uint8_t)rule, false);"),
     Plant("a clip is added to the subject", C, "points, (uint8_t)shape);", "points, (uint8_t)(shape & 0));"),
+    Plant("borders of a tile are exchanged", C, ".min_x = tile->min_x, .min_y = tile->min_y", ".min_x = tile->min_y, .min_y = tile->min_x"),
+    Plant("given contours are those of the subject", C, "overlay_c_given(&overlay->handle, (uint8_t)shape)", "overlay_c_given(&overlay->handle, (uint8_t)(shape & 0))"),
     Plant("a refused call leaves the result before", C, "    if (overlay)\n        drop_result(overlay);\n    return FADRINZO_BAD_ARGUMENT;", "    return FADRINZO_BAD_ARGUMENT;"),
     Plant("a rule without a name is taken", C, "rule <= FADRINZO_RULE_XOR)", "rule <= FADRINZO_RULE_XOR + 1)"),
     Plant("a boundary counts as inside", C, "(fadrinzo_location)code;", "(fadrinzo_location)(code == 1 ? 0 : code);"),
     Plant("a relation is that of another code", C, "&settings, (uint8_t)relation, &found);", "&settings, (uint8_t)(relation == 2 ? 1 : relation), &found);"),
     Plant("a refused relation is written", C, "    if (status == FADRINZO_OK)\n        *holds = found;", "    *holds = found;"),
     Plant("a relation without a name is taken", C, "relation <= FADRINZO_DISJOINT", "relation <= FADRINZO_DISJOINT + 1"),
+    Plant("a region that is not there is taken", C, "!is_relation(relation) || first >= overlay->regions || second >=", "!is_relation(relation) || first > overlay->regions || second >"),
+    Plant("numbers of regions begin at one", C, "*number = overlay->regions++;", "*number = ++overlay->regions;"),
+    Plant("regions are exchanged", C, "&settings, first, second, (uint8_t)relation", "&settings, second, first, (uint8_t)relation"),
     Plant("contours of many are turned", C, "lengths, contours, add_as_given);", "lengths, contours, add_turned);"),
     Plant("wide coordinates are cut", HEADER, "::digits <= 31;", "::digits <= 63;"),
     Plant("an outer boundary is left out", HEADER, "contours(found, found.shape_starts[i], found", "contours(found, found.shape_starts[i] + 1, found"),
@@ -89,11 +95,23 @@ PLANTS = [
     Plant("rows of the matrix are exchanged", RUST + "relations.rs", "[interior, boundary, exterior]", "[interior, exterior, boundary]", "relations"),
     Plant("the clip is named for the subject", RUST + "relations.rs", "6 => Error::NotExact(ShapeType::Subject)", "6 => Error::NotExact(ShapeType::Clip)", "relations"),
     Plant("boxes that touch are apart", RUST + "related.rs", "low.x <= other_high.x", "low.x < other_high.x", "related"),
-    Plant("regions without area are covered", RUST + "related.rs", "Ok(holds && overlay.interiors_meet(fill_rule)?)", "Ok(holds)", "related"),
+    Plant("regions without area are covered", RUST + "related.rs", "Ok(holds && regions.interiors_meet(first, second)?)", "Ok(holds)", "related"),
+    Plant("a refused clip is named as the subject", RUST + "related.rs", "Error::NotExact(_) => Error::NotExact(ShapeType::Clip)", "Error::NotExact(_) => Error::NotExact(ShapeType::Subject)", "related"),
+    Plant("a region is compared with itself", RUST + "regions.rs", "&settings, [first, second], code as u8", "&settings, [first, first], code as u8", "related"),
+    Plant("boxes that touch are apart in Python", RELATED, "bounds[2] >= west", "bounds[2] > west", "test_related"),
     Plant("floats are cut", RUST + "float.rs", "(point[axis] - center[axis]) * scale).round()", "(point[axis] - center[axis]) * scale).trunc()"),
     Plant("parts are joined where the line left", RUST + "clip.rs", "open == Some(step.line)", "open.is_some() || index > 0", "clip_lines"),
     Plant("a part has the number of another line", RUST + "clip.rs", "number - sides, segment", "(number - sides) / 2, segment", "clip_lines"),
-    Plant("an engine that was not made is freed", RUST + "ffi.rs", "is_full.then(|| Engine { handle })", "is_full.then_some(Engine { handle })", "memory"),
+    Plant("an engine that was not made is freed", RUST + "ffi.rs", "is_full.then(|| Engine { handle, regions: 0 })", "is_full.then_some(Engine { handle, regions: 0 })", "memory"),
+    Plant("only shapes along borders reach other tiles", RUST + "tiled.rs", "any(|point| seams.have(point))", "all(|point| seams.have(point))", "tiled"),
+    Plant("a refused tile stops none", RUST + "tiled.rs", "self.stopped.store(true,", "self.stopped.store(false,", "memory"),
+    Plant("a run of points is turned", RUST + "tiling.rs", "extend(buffer, [*first, *last])?", "extend(buffer, [*last, *first])?", "tiled"),
+    Plant("tiles between lines leave the last out", RUST + "tiling.rs", "    push(&mut parts, rest)?;\n    Ok(parts)", "    Ok(parts)", "tiled"),
+    Plant("the next chain counterclockwise leads on", RUST + "joining.rs", "rays[(index + rays.len() - 1) % rays.len()].3", "rays[(index + 1) % rays.len()].3", "tiled"),
+    Plant("shapes of two tiles stay apart", RUST + "joining.rs", "self.classes.join(one, other),", "self.classes.join(one, one),", "tiled"),
+    Plant("cycles are not cut", RUST + "joining.rs", "if comes_at[starts[chain]] > 0 {", "if comes_at[starts[chain]] > way.len() {", "tiled"),
+    Plant("contours that meet are not cut", RUST + "joining.rs", "filter(|pair| pair[0] == pair[1])", "filter(|pair| pair[0] > pair[1])", "tiled"),
+    Plant("sides are not cut at nodes", RUST + "joining.rs", "take_while(|&&node| node < (line, to))", "take_while(|&&node| node < (line, from))", "tiled"),
     Plant("the last shape is left out", RUST + "ffi.rs", "let len = self.sizes().shapes;", "let len = self.sizes().shapes.saturating_sub(1);"),
 ]
 

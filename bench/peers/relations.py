@@ -5,7 +5,7 @@ Usage, from the top of the repository:
 
     python3 bench/peers/relations.py                  all of the following
     python3 bench/peers/relations.py check 100000     the matrix and six predicates of as many random pairs of valid polygons
-    python3 bench/peers/relations.py time 1000 50000  milliseconds for pairs of so many edges together
+    python3 bench/peers/relations.py time 1000 50000  milliseconds for pairs of so many edges together, prepared and not
     python3 bench/peers/relations.py join 2400        milliseconds for joins of two layers of as many buildings
 
 The program in `relations/` is compiled first. Times are the least of several runs, by the processor's clock, on one thread; to make the polygons

@@ -23,7 +23,7 @@ import weakref
 
 __version__ = "0.2.0"
 __all__ = ["Arrangement", "MAX_COORD", "MIN_COORD", "NotExactError", "OverlayError", "covers", "interiors_meet", "is_disjoint", "is_within",
-           "locate", "overlay", "overlay_by_rules", "overlay_polygons", "relate", "relate_pattern", "same_region", "split",
+           "locate", "overlay", "overlay_by_rules", "overlay_polygons", "relate", "relate_pattern", "related_pairs", "same_region", "split",
            "touches"]
 
 MIN_COORD, MAX_COORD = -(1 << 30), (1 << 30) - 1
@@ -119,6 +119,8 @@ def _load():
         "free": (None, [handle]),
         "add_contour": (number, [handle, number, points, ctypes.c_size_t]),
         "add_contours": (number, [handle, number, points, ctypes.POINTER(ctypes.c_size_t), ctypes.c_size_t]),
+        "add_contour_in_tile": (number, [handle, number, points, ctypes.c_size_t, ctypes.c_void_p]),
+        "given": (number, [handle, number]),
         "add_polygon": (number, [handle, number, points, ctypes.POINTER(ctypes.c_size_t), ctypes.c_size_t]),
         "overlay_shapes": (number, [handle, number, number]),
         "overlay_by_rules": (number, [handle, ctypes.POINTER(number), ctypes.c_size_t, number]),
@@ -128,6 +130,9 @@ def _load():
         "locate": (number, [handle, number, number, ctypes.c_int32, ctypes.c_int32]),
         "relation": (number, [handle, number, number, ctypes.POINTER(number)]),
         "relate": (number, [handle, number, ctypes.c_char_p]),
+        "clear": (number, [handle]),
+        "add_region": (number, [handle, number, ctypes.POINTER(ctypes.c_size_t)]),
+        "region_relation": (number, [handle, ctypes.c_size_t, ctypes.c_size_t, number, ctypes.POINTER(number)]),
         "get": (_Result, [handle]),
         "split": (number, [handle, ctypes.POINTER(_Edge), ctypes.c_size_t, number]),
         "get_edges": (_Edges, [handle]),
@@ -673,3 +678,6 @@ def relate_pattern(subject: Contours, clip: Contours, pattern: str, fill: Fill =
     if not isinstance(pattern, str) or len(pattern) != 9 or not set(pattern) <= set("TF*"):
         raise ValueError(f"the pattern {_shown(pattern)} is not nine letters of T, F and *")
     return all(letter in ("*", found) for letter, found in zip(pattern, relate(subject, clip, fill, scale)))
+
+
+from fadrinzo.related import related_pairs  # noqa: E402  (it takes names from above)

@@ -6,14 +6,14 @@ import typing
 import unittest
 
 import fadrinzo
-from fadrinzo import wkt
+from fadrinzo import tiles, wkt
 
 CARGO = pathlib.Path(__file__).resolve().parents[2] / "rust/Cargo.toml"
 
 
 def public_items():
     """The public items of the package, and the public methods of its classes."""
-    for module in (fadrinzo, wkt):
+    for module in (fadrinzo, tiles, wkt):
         for name in module.__all__:
             item = getattr(module, name)
             if callable(item):

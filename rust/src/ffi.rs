@@ -5,7 +5,7 @@
 //! names the conditions (`requires`) of the export and says why they hold.
 
 use crate::memory::{collect, collect_all, copy, reserve};
-use crate::{DataSegment, Fault, IntContour, IntPoint, IntShape, LineSegment, OverlayLink, Segment};
+use crate::{DataSegment, Fault, IntContour, IntPoint, IntShape, LineSegment, OverlayLink, Segment, Tile};
 
 /// What holds an engine: `Handle` of `crates/overlay_c`. Null where it is empty.
 #[derive(Debug)]
@@ -135,6 +135,14 @@ extern "C" {
         boundary_included: bool,
     ) -> u8;
     fn overlay_c_add_contour(handle: &mut Handle, contour: *const IntPoint, contour_len: usize, shape: u8) -> u8;
+    fn overlay_c_add_contour_in_tile(
+        handle: &mut Handle,
+        contour: *const IntPoint,
+        contour_len: usize,
+        shape: u8,
+        borders: &Tile,
+    ) -> u8;
+    fn overlay_c_given(handle: &mut Handle, shape: u8) -> u8;
     fn overlay_c_polygons(handle: &mut Handle, settings: &Settings, rule: u8) -> u8;
     fn overlay_c_shapes(handle: &mut Handle, settings: &Settings, rule: u8) -> u8;
     fn overlay_c_polygons_by_rules(handle: &mut Handle, settings: &Settings, rules: *const u8, rules_len: usize) -> u8;
@@ -144,6 +152,22 @@ extern "C" {
     fn overlay_c_locate(handle: &mut Handle, point: &IntPoint, shape: u8, fill: u8) -> u8;
     fn overlay_c_relation(handle: &mut Handle, settings: &Settings, code: u8, holds: &mut bool) -> u8;
     fn overlay_c_relate(handle: &mut Handle, settings: &Settings, matrix: &mut Matrix) -> u8;
+    fn overlay_c_add_region(handle: &mut Handle, settings: &Settings) -> u8;
+    fn overlay_c_region_relation(
+        handle: &mut Handle,
+        settings: &Settings,
+        first: usize,
+        second: usize,
+        code: u8,
+        holds: &mut bool,
+    ) -> u8;
+    fn overlay_c_region_relate(
+        handle: &mut Handle,
+        settings: &Settings,
+        first: usize,
+        second: usize,
+        matrix: &mut Matrix,
+    ) -> u8;
     fn overlay_c_report(handle: &mut Handle) -> Report;
     fn overlay_c_arranged_report(handle: &mut Handle) -> Report;
     fn overlay_c_clear(handle: &mut Handle);
@@ -211,6 +235,8 @@ pub const NO_MEMORY: u8 = 1;
 #[derive(Debug)]
 pub struct Engine {
     handle: Handle,
+    /// How many regions it keeps.
+    regions: usize,
 }
 
 // SAFETY: `Send` is proved of the handle, by `crates/overlay_c/proofs/handle/Handle/TheSendSync/Send.antt`: what it owns is
@@ -226,7 +252,7 @@ impl Engine {
         // SAFETY: the handle is empty.
         let is_full = unsafe { overlay_c_new(&mut handle, snap_limit) };
         // an engine is made of a full handle alone, since it frees its own at the end
-        is_full.then(|| Engine { handle })
+        is_full.then(|| Engine { handle, regions: 0 })
     }
 
     /// Splits segments and builds a rule's graph, with closed walks if `walks` is true. Returns a status.
@@ -301,6 +327,19 @@ impl Engine {
         unsafe { overlay_c_add_contour(&mut self.handle, contour.as_ptr(), contour.len(), shape) }
     }
 
+    /// Copies what a tile has of a contour behind the others of its shape. Returns a status.
+    pub fn add_contour_in_tile(&mut self, contour: &[IntPoint], shape: u8, tile: &Tile) -> u8 {
+        let (first, len) = (contour.as_ptr(), contour.len());
+        // SAFETY: the handle is full. Nothing is required of points, codes and borders.
+        unsafe { overlay_c_add_contour_in_tile(&mut self.handle, first, len, shape, tile) }
+    }
+
+    /// Keeps the contours of a shape that were added as those of a result, which `contours` copies out. Returns a status.
+    pub fn given(&mut self, shape: u8) -> u8 {
+        // SAFETY: the handle is full. Nothing is required of codes.
+        unsafe { overlay_c_given(&mut self.handle, shape) }
+    }
+
     /// Overlays the contours that were added. Returns a status.
     pub fn polygons(&mut self, settings: &Settings, rule: u8) -> u8 {
         // SAFETY: the handle is full. Nothing is required of codes.
@@ -358,6 +397,43 @@ impl Engine {
         let mut matrix = Matrix::default();
         // SAFETY: the handle is full. Nothing is required of codes.
         match unsafe { overlay_c_relate(&mut self.handle, settings, &mut matrix) } {
+            0 => Ok(matrix),
+            status => Err(status),
+        }
+    }
+
+    /// Keeps the region of the subject that was added, with the next number. Returns a status.
+    pub fn add_region(&mut self, settings: &Settings) -> u8 {
+        // SAFETY: the handle is full. Nothing is required of codes.
+        let status = unsafe { overlay_c_add_region(&mut self.handle, settings) };
+        self.regions += usize::from(status == 0);
+        status
+    }
+
+    /// Panics unless both are numbers of regions that are kept.
+    fn check_numbers(&self, numbers: [usize; 2]) {
+        for number in numbers {
+            assert!(number < self.regions, "there is no region {number} among {}", self.regions);
+        }
+    }
+
+    /// Whether a relation holds between two regions, by its code, or the status of a refusal.
+    pub fn region_relation(&mut self, settings: &Settings, numbers: [usize; 2], code: u8) -> Result<bool, u8> {
+        self.check_numbers(numbers);
+        let ([first, second], mut holds) = (numbers, false);
+        // SAFETY: the handle is full, and both numbers are below that of the regions. Nothing is required of codes.
+        match unsafe { overlay_c_region_relation(&mut self.handle, settings, first, second, code, &mut holds) } {
+            0 => Ok(holds),
+            status => Err(status),
+        }
+    }
+
+    /// Which parts of two regions meet, or the status of a refusal.
+    pub fn region_relate(&mut self, settings: &Settings, numbers: [usize; 2]) -> Result<Matrix, u8> {
+        self.check_numbers(numbers);
+        let ([first, second], mut matrix) = (numbers, Matrix::default());
+        // SAFETY: the handle is full, and both numbers are below that of the regions. Nothing is required of codes.
+        match unsafe { overlay_c_region_relate(&mut self.handle, settings, first, second, &mut matrix) } {
             0 => Ok(matrix),
             status => Err(status),
         }

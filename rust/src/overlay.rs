@@ -4,7 +4,7 @@ use crate::error::{fault_of, fault_of_data, fault_of_line, outcome, point_error}
 use crate::memory::{collect, collect_all, push};
 use crate::{
     doubled_area, ffi, ClipRule, DataSegment, Engine, Error, Fault, FillRule, IntContour, IntPoint, IntShape,
-    LineSegment, OverlayGraph, OverlayLink, OverlayRule, PointLocation, Rounding, Segment, ShapeType, Solver,
+    LineSegment, OverlayGraph, OverlayLink, OverlayRule, PointLocation, Rounding, Segment, ShapeType, Solver, Tile,
 };
 use std::borrow::Cow;
 use std::fmt;
@@ -189,16 +189,52 @@ impl Overlay {
         shape_type: ShapeType,
     ) -> Result<(), Error> {
         let contour = contour.as_ref();
-        let count = &mut self.contour_counts[shape_type as usize];
-        match self.engine.add_contour(contour, shape_type as u8) {
-            0 => *count += 1,
-            1 => return Err(Error::Fault(Fault::Memory)),
-            _ => {
-                let error = point_error(contour, shape_type, *count);
-                return Err(error.expect("the engine refuses contours where a point is out of range"));
-            }
-        }
-        Ok(())
+        let status = self.engine.add_contour(contour, shape_type as u8);
+        self.keep_count(status, contour, shape_type)
+    }
+
+    /// Copies what a tile has of a contour behind the others of its shape: the contour, cut and clamped to the tile, or
+    /// nothing where it lies beside it. Where it is refused nothing is added.
+    ///
+    /// So the overlays that follow return the part of the overlay that belongs to the tile: all its points lie in the tile,
+    /// and it is right at each of the tile's points that is farther than a whole unit from every given edge that runs along no
+    /// axis. Edges of a part may run along the borders. [`TiledOverlay`](crate::TiledOverlay) joins the parts of many tiles.
+    ///
+    /// ```
+    /// use fadrinzo::{square, FillRule, IntPoint, Overlay, OverlayRule, ShapeType, Tile};
+    ///
+    /// let tile = Tile::new(IntPoint::new(0, 0), IntPoint::new(3, 10)).expect("it is wider and higher than 0");
+    /// let mut overlay = Overlay::new()?;
+    /// overlay.add_contour_in_tile(&square(1, 5), ShapeType::Subject, &tile)?;
+    /// overlay.add_contour_in_tile(&square(4, 8), ShapeType::Subject, &tile)?;
+    /// let part = overlay.overlay(OverlayRule::Subject, FillRule::NonZero)?;
+    /// assert_eq!(part, [[(1, 5), (1, 1), (3, 1), (3, 5)].map(IntPoint::from)]);
+    /// # Ok::<(), fadrinzo::Error>(())
+    /// ```
+    pub fn add_contour_in_tile<C: AsRef<[IntPoint]> + ?Sized>(
+        &mut self,
+        contour: &C,
+        shape_type: ShapeType,
+        tile: &Tile,
+    ) -> Result<(), Error> {
+        let contour = contour.as_ref();
+        let status = self.engine.add_contour_in_tile(contour, shape_type as u8, tile);
+        self.keep_count(status, contour, shape_type)
+    }
+
+    /// The contours of a shape that were added, in that order, as far as tiles have them.
+    ///
+    /// ```
+    /// use fadrinzo::{square, Overlay, ShapeType};
+    ///
+    /// let mut overlay = Overlay::with_contours(&[square(0, 9)], &[square(3, 6)])?;
+    /// assert_eq!(overlay.given_contours(ShapeType::Clip)?, [square(3, 6)]);
+    /// # Ok::<(), fadrinzo::Error>(())
+    /// ```
+    pub fn given_contours(&mut self, shape_type: ShapeType) -> Result<Vec<IntContour>, Error> {
+        let status = self.engine.given(shape_type as u8);
+        outcome(status, &[], |segment| fault_of(segment, Engine::I32))?;
+        Ok(self.engine.contours()?)
     }
 
     /// Adds a polygon, whichever way its rings run: its outer boundary is turned counterclockwise and each hole
@@ -714,6 +750,20 @@ impl Overlay {
         let status = self.engine.clip(segments, &self.settings(solver, fill_rule), invert, boundary_included);
         outcome(status, segments, |segment| fault_of_line(segment, self.width))?;
         self.graph()
+    }
+
+    /// Counts a contour that was given, where its status says that it was taken.
+    fn keep_count(&mut self, status: u8, contour: &[IntPoint], shape_type: ShapeType) -> Result<(), Error> {
+        let count = &mut self.contour_counts[shape_type as usize];
+        match status {
+            0 => *count += 1,
+            1 => return Err(Error::Fault(Fault::Memory)),
+            _ => {
+                let error = point_error(contour, shape_type, *count);
+                return Err(error.expect("the engine refuses contours where a point is out of range"));
+            }
+        }
+        Ok(())
     }
 
     /// Takes over what an overlay of contours reports, where its status says that it was done.

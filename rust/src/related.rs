@@ -1,7 +1,7 @@
 //! Which regions of two lists are related. Boxes are plain Rust, tested and not proved; each pair that they leave is decided by
-//! the proved calls of [`Overlay`].
+//! the proved calls of [`Regions`].
 
-use crate::{bounding_box, Error, FillRule, IntPoint, Overlay};
+use crate::{bounding_box, Error, FillRule, IntPoint, Regions, ShapeType};
 use std::fmt;
 
 /// A relation of two regions, by which [`related_pairs`] chooses pairs. The last three hold of regions whose interiors meet alone.
@@ -79,14 +79,21 @@ where
 {
     let columns = columns_of(second);
     let mut pairs = Vec::new();
+    let mut prepared: Option<Prepared> = None;
     for (number, region) in first.iter().enumerate() {
+        let mut of_region = None;
         for other in numbers_meeting(&columns, region.as_ref()) {
             let error = |error| PairError { first: number, second: other, error };
-            let mut overlay = Overlay::with_contours(region.as_ref(), &[] as &[C]).map_err(error)?;
-            for contour in second[other].as_ref() {
-                overlay.add_contour(contour, crate::ShapeType::Clip).map_err(error)?;
-            }
-            if is_related(&mut overlay, predicate, fill_rule).map_err(error)? {
+            let prepared = match &mut prepared {
+                Some(prepared) => prepared,
+                None => prepared.insert(Prepared::new(second.len()).map_err(error)?),
+            };
+            let subject = match of_region {
+                Some(subject) => subject,
+                None => *of_region.insert(prepared.regions.push(region.as_ref(), fill_rule).map_err(error)?),
+            };
+            let clip = prepared.clip(other, second[other].as_ref(), fill_rule).map_err(error)?;
+            if is_related(&mut prepared.regions, subject, clip, predicate).map_err(error)? {
                 pairs.push((number, other));
             }
         }
@@ -94,18 +101,57 @@ where
     Ok(pairs)
 }
 
-/// Whether the subject and the clip share a point and are in a relation.
-fn is_related(overlay: &mut Overlay, predicate: Predicate, fill_rule: FillRule) -> Result<bool, Error> {
+/// The regions of both lists that some pair had to be prepared for.
+struct Prepared {
+    regions: Regions,
+    /// The number of each second region that is prepared.
+    clips: Vec<Option<usize>>,
+}
+
+impl Prepared {
+    fn new(seconds: usize) -> Result<Prepared, Error> {
+        Ok(Prepared { regions: Regions::new()?, clips: vec![None; seconds] })
+    }
+
+    /// The number of a second region, which is prepared at first. An error names it as the clip.
+    fn clip<D: AsRef<[IntPoint]>>(
+        &mut self,
+        other: usize,
+        contours: &[D],
+        fill_rule: FillRule,
+    ) -> Result<usize, Error> {
+        if let Some(clip) = self.clips[other] {
+            return Ok(clip);
+        }
+        let clip = self.regions.push(contours, fill_rule).map_err(as_clip)?;
+        self.clips[other] = Some(clip);
+        Ok(clip)
+    }
+}
+
+/// An error of a subject as that of a clip.
+fn as_clip(error: Error) -> Error {
+    match error {
+        Error::NotExact(_) => Error::NotExact(ShapeType::Clip),
+        Error::Point { contour, point, fault, .. } => {
+            Error::Point { shape_type: ShapeType::Clip, contour, point, fault }
+        }
+        other => other,
+    }
+}
+
+/// Whether two prepared regions share a point and are in a relation.
+fn is_related(regions: &mut Regions, first: usize, second: usize, predicate: Predicate) -> Result<bool, Error> {
     let holds = match predicate {
-        Predicate::SharePoint => return Ok(!overlay.is_disjoint(fill_rule)?),
-        Predicate::InteriorsMeet => return overlay.interiors_meet(fill_rule),
-        Predicate::Touch => return overlay.touches(fill_rule),
-        Predicate::Covers => overlay.covers(fill_rule)?,
-        Predicate::IsWithin => overlay.is_within(fill_rule)?,
-        Predicate::SameRegion => overlay.same_region(fill_rule)?,
+        Predicate::SharePoint => return Ok(!regions.is_disjoint(first, second)?),
+        Predicate::InteriorsMeet => return regions.interiors_meet(first, second),
+        Predicate::Touch => return regions.touches(first, second),
+        Predicate::Covers => regions.covers(first, second)?,
+        Predicate::IsWithin => regions.is_within(first, second)?,
+        Predicate::SameRegion => regions.same_region(first, second)?,
     };
     // without a common point inside, what is covered has no area
-    Ok(holds && overlay.interiors_meet(fill_rule)?)
+    Ok(holds && regions.interiors_meet(first, second)?)
 }
 
 /// The least and the greatest corner of a box.

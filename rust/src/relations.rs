@@ -5,7 +5,7 @@ use std::fmt;
 
 /// The codes of relations in the archive.
 #[repr(u8)]
-enum Code {
+pub(crate) enum Code {
     InteriorsMeet = 0,
     Covers = 1,
     IsWithin = 2,
@@ -231,7 +231,7 @@ impl Overlay {
 }
 
 /// The error of a status.
-fn error_of(status: u8) -> Error {
+pub(crate) fn error_of(status: u8) -> Error {
     match status {
         1 => Error::Fault(Fault::Memory),
         6 => Error::NotExact(ShapeType::Subject),

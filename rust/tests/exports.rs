@@ -14,7 +14,7 @@ mod memory;
 use common::Random;
 use counted::{blocks, Refusals};
 use fadrinzo::{
-    DataSegment, Fault, IntContour, IntPoint, IntShape, LineSegment, OverlayLink, Segment, ShapeCountBoolean,
+    DataSegment, Fault, IntContour, IntPoint, IntShape, LineSegment, OverlayLink, Segment, ShapeCountBoolean, Tile,
 };
 use ffi::{Engine, Settings};
 
@@ -27,7 +27,8 @@ enum Call {
     All { given: Vec<Segment>, settings: Settings },
     Join { given: Vec<Segment>, width: u8 },
     Clip { given: Vec<LineSegment>, settings: Settings, invert: bool, boundary_included: bool },
-    AddContour { contour: IntContour, shape: u8 },
+    AddContour { contour: IntContour, shape: u8, tile: Option<Tile> },
+    Given { shape: u8 },
     Polygons { settings: Settings, rule: u8 },
     Shapes { settings: Settings, rule: u8 },
     Clear,
@@ -61,7 +62,8 @@ impl Call {
             Call::Clip { given, settings, invert, boundary_included } => {
                 engine.clip(given, settings, *invert, *boundary_included)
             }
-            Call::AddContour { contour, shape } => engine.add_contour(contour, *shape),
+            Call::AddContour { contour, shape, tile } => add(engine, contour, *shape, tile),
+            Call::Given { shape } => engine.given(*shape),
             Call::Polygons { settings, rule } => engine.polygons(settings, *rule),
             Call::Shapes { settings, rule } => engine.shapes_of_polygons(settings, *rule),
             Call::Clear => {
@@ -91,7 +93,7 @@ impl Call {
                 are_bad_ends(it.a, it.b, settings.engine) || !is_counted
             }),
             Call::AddContour { contour, .. } => contour.iter().any(|&point| is_out_of_range(point, 0)),
-            Call::Polygons { .. } | Call::Shapes { .. } | Call::Clear => false,
+            Call::Given { .. } | Call::Polygons { .. } | Call::Shapes { .. } | Call::Clear => false,
         }
     }
 
@@ -109,6 +111,7 @@ impl Call {
             }
             Call::Clip { .. } => engine.copy_lines(&mut left.lines).unwrap(),
             Call::AddContour { .. } | Call::Clear => {}
+            Call::Given { .. } => left.contours = engine.contours().unwrap(),
             Call::Polygons { .. } | Call::Shapes { .. } => {
                 left.contours = engine.contours().unwrap();
                 left.shapes = engine.shapes().unwrap();
@@ -148,6 +151,14 @@ fn is_out_of_range(point: IntPoint, engine: u8) -> bool {
     [point.x, point.y].iter().any(|number| !(-most..most).contains(number))
 }
 
+/// Adds a contour, or what a tile has of it.
+fn add(engine: &mut Engine, contour: &[IntPoint], shape: u8, tile: &Option<Tile>) -> u8 {
+    match tile {
+        Some(tile) => engine.add_contour_in_tile(contour, shape, tile),
+        None => engine.add_contour(contour, shape),
+    }
+}
+
 fn are_bad_ends(a: IntPoint, b: IntPoint, engine: u8) -> bool {
     a == b || is_out_of_range(a, engine) || is_out_of_range(b, engine)
 }
@@ -157,7 +168,7 @@ struct Kept {
     engine: Engine,
     /// Room for the links that a call writes.
     links: Vec<OverlayLink>,
-    contours: Vec<(IntContour, u8)>,
+    contours: Vec<(IntContour, u8, Option<Tile>)>,
     snap_limit: u32,
 }
 
@@ -170,12 +181,12 @@ impl Kept {
     /// Makes a call, first with growths that are refused, and compares what it leaves with what it leaves in another engine.
     fn make(&mut self, call: &Call, refusals: Option<Refusals>) -> u8 {
         let mut other = Kept::new(self.snap_limit);
-        for (contour, shape) in &self.contours {
-            let added = counted::inside(|| other.engine.add_contour(contour, *shape));
+        for (contour, shape, tile) in &self.contours {
+            let added = counted::inside(|| add(&mut other.engine, contour, *shape, tile));
             assert_eq!(added, 0);
         }
         let wanted = call.make(&mut other.engine, &mut other.links);
-        let may_overflow = !matches!(call, Call::AddContour { .. } | Call::Clear);
+        let may_overflow = !matches!(call, Call::AddContour { .. } | Call::Given { .. } | Call::Clear);
         let is_known = match (call.is_refused(), call) {
             (true, Call::AddContour { .. }) => wanted == 4,
             (true, _) => wanted == 3,
@@ -216,7 +227,9 @@ impl Kept {
     /// Notes the contours that the engine has after a call.
     fn note(&mut self, call: &Call, status: u8) {
         match call {
-            Call::AddContour { contour, shape } if status == 0 => self.contours.push((contour.clone(), *shape)),
+            Call::AddContour { contour, shape, tile } if status == 0 => {
+                self.contours.push((contour.clone(), *shape, *tile));
+            }
             Call::Clear => self.contours.clear(),
             _ => {}
         }
@@ -292,7 +305,7 @@ fn settings(random: &mut Random) -> Settings {
 
 fn call(random: &mut Random) -> Call {
     let rule = code(random, 32);
-    match random.below(12) {
+    match random.below(13) {
         0 => Call::Overlay { given: segments(random), settings: settings(random), rule, walks: random.below(2) == 0 },
         1 => {
             let given = segments(random);
@@ -316,10 +329,12 @@ fn call(random: &mut Random) -> Call {
         6..=8 => {
             let span = 3 + random.below(20);
             let contour = (0..random.below(7)).map(|_| point(random, span)).collect();
-            Call::AddContour { contour, shape: code(random, 2) }
+            let tile = Tile::new(point(random, span), point(random, span));
+            Call::AddContour { contour, shape: code(random, 2), tile }
         }
         9 => Call::Polygons { settings: settings(random), rule },
         10 => Call::Shapes { settings: settings(random), rule },
+        11 => Call::Given { shape: code(random, 2) },
         _ if random.below(6) == 0 => Call::Clear,
         _ => Call::Polygons { settings: settings(random), rule },
     }

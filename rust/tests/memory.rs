@@ -7,9 +7,10 @@ mod counted;
 
 use counted::{has_refused, inside, outside, refused, Refusals};
 use fadrinzo::{square, ClipRule, DataSegment, Error, Fault, FillRule, FloatError, FloatOverlay, IntPoint};
-use fadrinzo::{LineSegment, Overlay, OverlayRule, Segment, ShapeType, Solver};
+use fadrinzo::{LineSegment, Overlay, OverlayRule, Segment, ShapeType, Solver, TileProgress, TiledError, TiledOverlay};
 use std::cell::Cell;
 use std::fmt::Debug;
+use std::sync::atomic::{AtomicUsize, Ordering};
 
 /// Makes a call with its growth of this number refused, counted from 1, and returns whether there was such a growth.
 fn refuse<T>(growth: u64, call: impl FnOnce() -> T) -> (T, bool) {
@@ -202,6 +203,40 @@ fn names_take_no_memory() {
     let (unknown, was_refused) = refuse(1, || "some rule".parse::<OverlayRule>().unwrap_err());
     assert!(was_refused);
     assert!(unknown.to_string().starts_with("`` is no overlay rule; write subject"), "{unknown}");
+}
+
+/// An overlay by tiles of one thread that is refused memory names the tile, and begins no other.
+#[test]
+fn each_growth_of_tiles_is_refused() {
+    let [subject, clip] = contours();
+    let done = AtomicUsize::new(0);
+    let count = |_: TileProgress| {
+        done.fetch_add(1, Ordering::Relaxed);
+    };
+    let (mut named, mut growths) = (0, 0);
+    let wanted = TiledOverlay::new(&subject, &clip).unwrap().with_tiles(4).overlay_shapes(RULE, FILL).unwrap();
+    for growth in 1.. {
+        done.store(0, Ordering::Relaxed);
+        let (found, was_refused) = refuse(growth, || {
+            let overlay = TiledOverlay::new(&subject, &clip)?.with_tiles(4).with_threads(1).with_progress(&count);
+            overlay.overlay_shapes(RULE, FILL)
+        });
+        match &found {
+            Ok(found) => assert_eq!(*found, wanted, "growth {growth}"),
+            Err(TiledError { error, .. }) if !error.is_of_memory() => panic!("growth {growth}: {error:?}"),
+            Err(TiledError { tile: Some(tile), .. }) => {
+                let tiles = TiledOverlay::new(&subject, &clip).unwrap().with_tiles(4).tiles().unwrap();
+                assert_eq!(tiles[done.load(Ordering::Relaxed)], *tile, "growth {growth}");
+                named += 1;
+            }
+            Err(TiledError { tile: None, .. }) => {}
+        }
+        if !was_refused {
+            growths = growth;
+            break;
+        }
+    }
+    assert!(named > 100 && growths > named, "{named} of {growths}");
 }
 
 trait CodeOfTest {

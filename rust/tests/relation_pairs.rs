@@ -6,7 +6,7 @@
 mod common;
 
 use common::Random;
-use fadrinzo::{bounding_box, Error, FillRule, IntPoint, Overlay, Part, ShapeType};
+use fadrinzo::{bounding_box, Error, FillRule, IntPoint, Overlay, Part, Regions, ShapeType};
 use std::cmp::Ordering;
 
 type Contours = Vec<Vec<IntPoint>>;
@@ -19,6 +19,19 @@ const RELATIONS: [fn(&mut Overlay, FillRule) -> Result<bool, Error>; 6] = [
     Overlay::touches,
     Overlay::is_disjoint,
 ];
+
+/// The same of regions that are prepared.
+const OF_REGIONS: [fn(&mut Regions, usize, usize) -> Result<bool, Error>; 6] = [
+    Regions::interiors_meet,
+    Regions::covers,
+    Regions::is_within,
+    Regions::same_region,
+    Regions::touches,
+    Regions::is_disjoint,
+];
+
+/// How many regions are kept before they are dropped.
+const MOST_REGIONS: usize = 100;
 
 const PARTS: [Part; 3] = [Part::Interior, Part::Boundary, Part::Exterior];
 
@@ -327,6 +340,7 @@ fn do_boxes_meet(first: &[Vec<IntPoint>], second: &[Vec<IntPoint>]) -> bool {
 fn compare(seed: u64, pairs: usize) -> (usize, [usize; 6]) {
     let mut random = Random(seed.wrapping_mul(0x9e37_79b9_7f4a_7c15));
     let mut overlay = Overlay::new().unwrap();
+    let mut regions = Regions::new().unwrap();
     let (mut decided, mut held) = (0, [0; 6]);
     for _ in 0..pairs {
         let [subject, clip] = pair(&mut random);
@@ -354,6 +368,13 @@ fn compare(seed: u64, pairs: usize) -> (usize, [usize; 6]) {
         let relation = overlay.relate(fill_rule).unwrap();
         let met = PARTS.map(|of_subject| PARTS.map(|of_clip| relation.meets(of_subject, of_clip)));
         assert_eq!(met, by_definition.meet, "{subject:?} {clip:?} {fill_rule}");
+        if regions.len() > MOST_REGIONS {
+            regions = Regions::new().unwrap();
+        }
+        let [first, second] = [&subject, &clip].map(|contours| regions.push(contours, fill_rule).unwrap());
+        let of_regions = OF_REGIONS.map(|relation| relation(&mut regions, first, second));
+        assert_eq!(of_regions, wanted.map(Ok), "{subject:?} {clip:?} {fill_rule}");
+        assert_eq!(regions.relate(first, second), Ok(relation), "{subject:?} {clip:?} {fill_rule}");
         decided += 1;
         held = [0, 1, 2, 3, 4, 5].map(|relation| held[relation] + usize::from(wanted[relation]));
     }

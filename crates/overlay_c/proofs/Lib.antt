@@ -5,6 +5,8 @@ pub mod LinkData
 pub mod Meetings
 pub mod Overlays
 pub mod Refusals
+pub mod RegionRelations
 pub mod Steps
+pub mod Ranges
 pub mod Usable
 pub mod Values

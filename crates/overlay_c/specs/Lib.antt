@@ -6,7 +6,9 @@ pub mod Kept
 pub mod Matrices
 pub mod Owned
 pub mod Records
+pub mod Regions
 pub mod Relations
 pub mod Status
 pub mod Tags
+pub mod Tiles
 pub mod Widths

@@ -17,14 +17,18 @@ use Rattle.overlay_c.specs.declared.relations.Relation.TheVariants.{InteriorsMee
 abbrev pub relation_of : ℕ → Relation
 relation_of code = if code == 0 then InteriorsMeet else if code == 1 then Covers else if code == 2 then IsWithin else if code == 3 then SameRegion else if code == 4 then Touch else Disjoint
 
--- the relation holds between a subject and a clip
+-- the relation holds between a subject and a clip, under a fill rule each
+abbrev pub HoldsUnder : Relation → FillRule → FillRule → List (List Point) → List (List Point) → Type 0
+HoldsUnder InteriorsMeet subject_rule clip_rule subject clip = relations.InteriorsMeet subject_rule clip_rule subject clip
+HoldsUnder Covers subject_rule clip_rule subject clip = relations.Covers subject_rule clip_rule subject clip
+HoldsUnder IsWithin subject_rule clip_rule subject clip = relations.IsWithin subject_rule clip_rule subject clip
+HoldsUnder SameRegion subject_rule clip_rule subject clip = relations.AreSameRegion subject_rule clip_rule subject clip
+HoldsUnder Touch subject_rule clip_rule subject clip = contacts.Touch subject_rule clip_rule subject clip
+HoldsUnder Disjoint subject_rule clip_rule subject clip = contacts.AreDisjoint subject_rule clip_rule subject clip
+
+-- the same under one fill rule
 abbrev pub Holds : Relation → FillRule → List (List Point) → List (List Point) → Type 0
-Holds InteriorsMeet fill_rule subject clip = relations.InteriorsMeet fill_rule fill_rule subject clip
-Holds Covers fill_rule subject clip = relations.Covers fill_rule fill_rule subject clip
-Holds IsWithin fill_rule subject clip = relations.IsWithin fill_rule fill_rule subject clip
-Holds SameRegion fill_rule subject clip = relations.AreSameRegion fill_rule fill_rule subject clip
-Holds Touch fill_rule subject clip = contacts.Touch fill_rule fill_rule subject clip
-Holds Disjoint fill_rule subject clip = contacts.AreDisjoint fill_rule fill_rule subject clip
+Holds relation fill_rule subject clip = HoldsUnder relation fill_rule fill_rule subject clip
 
 -- why it is not known whether a relation of shapes in range holds: the named shape has edges that cross at a point that is not
 -- whole, a growth was refused, or counts leave the range
@@ -48,3 +52,7 @@ code_of_fault (Refused (contour.OutOfRange shape_type index point)) = 4
 -- the codes of an outcome
 abbrev pub IsRelationCode : ℕ → Type 0
 IsRelationCode code = (code ≡ 0) ⊎ ((code ≡ 1) ⊎ ((code ≡ 2) ⊎ ((code ≡ 6) ⊎ (code ≡ 7))))
+
+-- the codes of the outcome where a region is added
+abbrev pub IsRegionCode : ℕ → Type 0
+IsRegionCode code = (code ≡ 0) ⊎ ((code ≡ 1) ⊎ ((code ≡ 2) ⊎ (code ≡ 6)))

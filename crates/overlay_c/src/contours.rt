@@ -1,5 +1,7 @@
 // Contours: those that an engine is given, and those of its last result.
 ghost use Rattle.std.specs.Prelude.{◌≡◌, OnOk, ◌++◌, map, length, flat_map};
+ghost use Rattle.std.specs.List.{list_all};
+ghost use Rattle.overlay_geometry.specs.Coordinates.{least_coordinate, greatest_coordinate, is_point_in_range};
 ghost use Rattle.overlay_geometry.specs.PointOf.{point_of};
 ghost use Rattle.overlay_contours.specs.ContoursOf.{points_of, contours_of};
 ghost use Rattle.overlay_contours.specs.Shapes.{all_contours};
@@ -31,6 +33,13 @@ pub fn load_points(
         points.push(point(given))?;
     }
     Ok(())
+}
+
+/// Whether all points of a contour are in range.
+pub fn are_in_range(points: &[IntPoint<i32>]) -> bool
+    ensures { result ≡ list_all (λ p. is_point_in_range least_coordinate greatest_coordinate (point_of (λ z. z) p)) points.now }
+{
+    points.iter().all(|point| point.is_in_range())
 }
 
 /// Keeps contours: how many points each has, and all points.

@@ -1,9 +1,11 @@
 // The engine behind a handle: what splits and builds, and what overlays contours.
-ghost use Rattle.std.specs.Prelude.{◌≡◌, ◌↔◌, ◌∷◌, ◌++◌, [], true, false, None, IsTrue, IsFalse, IfSome, OnOk, OnErr, IfOk, IfErr, map, length};
+ghost use Rattle.std.specs.Prelude.{◌≡◌, ◌↔◌, ◌<◌, ◌∷◌, ◌++◌, [], true, false, None, IsTrue, IsFalse, IfSome, OnOk, OnErr, IfOk, IfErr, map, length};
 ghost use Rattle.overlay_c.specs.Calls.{KeepsRulesBy, SameResult, HasArrangement, HasNoArrangement, MaySplit, MayNotSplit, MaySplitLines, MayNotSplitLines};
 ghost use Rattle.overlay_c.specs.Status.{OnUnusable, OnTooLarge};
 
-use crate::contours::{PointRecord, keep_contours, keep_shapes, load_points, location_code, point};
+use crate::contours::{
+    PointRecord, are_in_range, keep_contours, keep_shapes, load_points, location_code, point,
+};
 use crate::cores::Core;
 use crate::lines;
 use crate::records::{
@@ -11,6 +13,7 @@ use crate::records::{
     overlay_rules, rounding, solver, words, write_links, write_records,
 };
 use crate::refusal::Refusal;
+use crate::regions::{holds_between, keep_region, matrix_between};
 use crate::relations::{MatrixRecord, Relation, holds, matrix};
 use crate::tags::{Tag, TaggedRecord};
 use crate::width::is_narrow;
@@ -19,10 +22,14 @@ use overlay_base::overlay_core::fill_rule::FillRule;
 use overlay_base::overlay_core::overlay_rule::OverlayRule;
 use overlay_base::segm::shape_type::ShapeType;
 use overlay_contours::arrangement::Arrangement;
+use overlay_contours::fault::ContourFault;
 use overlay_contours::overlay::Overlay;
 use overlay_geometry::geom::point::IntPoint;
 use overlay_geometry::num::OverlayInt;
 use overlay_relations::fault::RelationFault;
+use overlay_relations::region::Region;
+use overlay_tiles::clip::contour_in_tile;
+use overlay_tiles::tile::Tile;
 use std::alloc::Global;
 
 /// What is kept from one call to the next.
@@ -40,6 +47,8 @@ pub struct Engine {
     pub points: Vec<IntPoint<i32>>,
     /// The last arrangement of the contours that were given.
     pub arrangement: Option<Arrangement<i32>>,
+    /// Regions that are prepared for relations.
+    pub regions: Vec<Region<i32>>,
     /// How many points each contour of the last overlay of contours has.
     pub contour_lengths: Vec<usize>,
     /// The points of the first such contour, then those of the next, and so on.
@@ -55,14 +64,20 @@ impl Engine {
     ghost use Rattle.overlay_c.specs.Records.{line_asked_by, told_by, line_told_by, link_by, names_narrow, number_by};
     ghost use Rattle.overlay_c.specs.Tags.{untagged, tagged_by};
     ghost use Rattle.overlay_c.specs.Widths.{least_of, greatest_of, LastKeepsSplit, IsLastArranged, LastBuildsAll, SameSegments, LastKeepsOverlay, LastKeepsData, LastKeepsClip, LastKeepsNumbers, LastStandsAfter, LastLinesStandAfter, LastIsCountRefused, LastIsCountOfLinesRefused, LastIsCountOfNumberedRefused, LastLeavesRange, SameLimits, SameOther, SameArrangements, SameLines, SameData, SameChange, LastHasNoWalks, LastHasNoGraph, LastTellsSizes, segment_count, line_count, link_count, segments_in, lines_in, has_changed_in, links_in, link_data_in, line_counts_in, line_numbers_in, degrees_in, indexes_in, walk_lengths_in, walk_links_in};
+    ghost use Rattle.overlay_base.specs.declared.segm.fault.Fault.TheVariants.{Memory};
     ghost use Rattle.overlay_base.specs.declared.segm.shape_type.ShapeType.TheVariants.{Subject, Clip};
+    ghost use Rattle.overlay_c.specs.declared.refusal.Refusal.TheVariants.{Refused};
     ghost use Rattle.overlay_contours.specs.Kept.{passes_of, reach_of};
     ghost use Rattle.overlay_contours.specs.Refusals.{other_shape};
     ghost use Rattle.overlay_c.specs.Contours.{point_by, are_in_range, location_code, contours_in, IsPointRefusal, IsPolygonRefusal};
     ghost use Rattle.overlay_c.specs.Contours.{KeepsPolygons, KeepsShapes, SameSplit, SameReport};
     ghost use Rattle.overlay_c.specs.Records.{fill_rule_of};
+    ghost use Rattle.overlay_c.specs.Tiles.{KeepsGiven};
+    ghost use Rattle.overlay_tiles.specs.TileOf.{tile_of};
+    ghost use Rattle.overlay_tiles.specs.Tiles.{in_tile};
     ghost use Rattle.overlay_c.specs.Matrices.{IsMatrixBy};
     ghost use Rattle.overlay_c.specs.Relations.{Holds, IsRelationRefusal};
+    ghost use Rattle.overlay_c.specs.Regions.{SameRegions, AddsRegion, IsShapeRefusal, HoldsOfRegionsAt, IsMatrixOfRegionsAt, IsRegionsRefusal};
     ghost use Rattle.overlay_c.specs.Arranged.{KeepsArrangement, KeepsArrangedContours, KeepsArrangedShapes, IsArrangedRefusal, SameArrangement, IsReportOf, IsReportOfNothing};
 
     /// An engine, which takes no memory yet.
@@ -74,6 +89,7 @@ impl Engine {
         ensures passes { passes_of result.polygons ≡ 0 }
         ensures reach { reach_of result.polygons ≡ 0 }
         ensures arrangement { result.arrangement ≡ None }
+        ensures regions { result.regions.items ≡ [] }
     {
         Engine {
             wide: Core::new(alloc, snap_limit),
@@ -82,6 +98,7 @@ impl Engine {
             polygons: Overlay::new(alloc),
             points: Vec::new(alloc),
             arrangement: None,
+            regions: Vec::new(alloc),
             contour_lengths: Vec::new(alloc),
             contour_points: Vec::new(alloc),
             shape_lengths: Vec::new(alloc),
@@ -467,9 +484,59 @@ impl Engine {
         ensures report { SameReport self.old self.new }
         ensures arrangement { self.new.arrangement ≡ self.old.arrangement }
         ensures result { SameResult self.old self.new }
+        ensures regions { SameRegions self.old self.new }
     {
         load_points(contour, &mut self.points)?;
         self.polygons.add_contour(&self.points, shape_type)?;
+        Ok(())
+    }
+
+    /// Copies what a tile has of a contour behind the others of its shape, if all points of the contour are in range. Else,
+    /// and where a growth is refused, nothing is added.
+    pub fn add_contour_in_tile(
+        &mut self,
+        alloc: Global,
+        contour: &[PointRecord],
+        shape_type: ShapeType,
+        tile: &Tile<i32>,
+    ) -> Result<(), Refusal>
+        ensures added { OnOk result (contours_in self.new shape_type ≡ contours_in self.old shape_type
+            ++ in_tile (tile_of (λ z. z) tile.now) (map point_by contour.now ∷ [])) }
+        ensures unchanged { OnErr result (contours_in self.new shape_type ≡ contours_in self.old shape_type) }
+        ensures other { contours_in self.new (other_shape shape_type)
+            ≡ contours_in self.old (other_shape shape_type) }
+        ensures in_range { OnOk result (IsTrue (are_in_range contour.now)) }
+        ensures refused { IfErr result (λ refusal. IsPointRefusal contour.now refusal) }
+        ensures rest { SameSplit self.old self.new }
+        ensures report { SameReport self.old self.new }
+        ensures arrangement { self.new.arrangement ≡ self.old.arrangement }
+        ensures result { SameResult self.old self.new }
+    {
+        load_points(contour, &mut self.points)?;
+        if !are_in_range(&self.points) {
+            return Err(Refusal::OutOfRange);
+        }
+        let Some(points) = contour_in_tile(alloc, tile, &self.points)? else {
+            return Ok(());
+        };
+        self.polygons.add_contour(&points, shape_type)?;
+        Ok(())
+    }
+
+    /// Keeps the contours of a shape that were added as those of a result.
+    pub fn given(&mut self, shape_type: ShapeType) -> Result<(), Refusal>
+        ensures kept { OnOk result (KeepsGiven shape_type self.new) }
+        ensures refused { IfErr result (λ refusal. refusal ≡ Refused Memory) }
+        ensures contours { self.new.polygons ≡ self.old.polygons }
+        ensures rest { SameSplit self.old self.new }
+        ensures arrangement { self.new.arrangement ≡ self.old.arrangement }
+    {
+        self.shape_lengths.clear();
+        keep_contours(
+            self.polygons.contours(shape_type),
+            &mut self.contour_lengths,
+            &mut self.contour_points,
+        )?;
         Ok(())
     }
 
@@ -669,6 +736,60 @@ impl Engine {
         matrix(alloc, &self.polygons, &solver(settings), fill_rule)
     }
 
+    /// Keeps the region of the subject that was added, under the fill rule of the settings, behind those that are kept.
+    pub fn add_region(
+        &mut self,
+        alloc: Global,
+        settings: &SettingsRecord,
+    ) -> Result<(), RelationFault>
+        ensures added { OnOk result (AddsRegion settings.now self.old self.new) }
+        ensures unchanged { OnErr result (SameRegions self.old self.new) }
+        ensures refused { IfErr result (IsShapeRefusal (contours_in self.old Subject)) }
+        ensures contours { self.new.polygons ≡ self.old.polygons }
+        ensures rest { SameSplit self.old self.new }
+        ensures arrangement { self.new.arrangement ≡ self.old.arrangement }
+        ensures result { SameResult self.old self.new }
+    {
+        let contours = self.polygons.contours(ShapeType::Subject);
+        let fill_rule = fill_rule(settings.fill_rule);
+        let region = Region::new(alloc, contours, &solver(settings), fill_rule)?;
+        keep_region(&mut self.regions, region)?;
+        Ok(())
+    }
+
+    /// Whether a relation holds between two regions that are kept, by their numbers.
+    pub fn region_relation(
+        &self,
+        settings: &SettingsRecord,
+        first: usize,
+        second: usize,
+        relation: Relation,
+    ) -> Result<bool, ContourFault>
+        requires first { first < length self.now.regions.items }
+        requires second { second < length self.now.regions.items }
+        ensures holds { IfOk result (λ found. HoldsOfRegionsAt relation first second found self.now) }
+        ensures refused { IfErr result (IsRegionsRefusal first second self.now) }
+    {
+        let (one, other) = (&self.regions[first], &self.regions[second]);
+        holds_between(one, other, relation, &solver(settings))
+    }
+
+    /// Which parts of two regions that are kept meet, by their numbers.
+    pub fn region_matrix(
+        &self,
+        settings: &SettingsRecord,
+        first: usize,
+        second: usize,
+    ) -> Result<MatrixRecord, ContourFault>
+        requires first { first < length self.now.regions.items }
+        requires second { second < length self.now.regions.items }
+        ensures matrix { IfOk result (λ found. IsMatrixOfRegionsAt first second found self.now) }
+        ensures refused { IfErr result (IsRegionsRefusal first second self.now) }
+    {
+        let (one, other) = (&self.regions[first], &self.regions[second]);
+        matrix_between(one, other, &solver(settings))
+    }
+
     /// What the last overlay of contours that was not refused reports of its run.
     pub fn report(&self) -> ReportRecord
         ensures passes { number_by result.passes ≡ passes_of self.now.polygons }
@@ -705,6 +826,7 @@ impl Engine {
         ensures report { SameReport self.old self.new }
         ensures arrangement { self.new.arrangement ≡ self.old.arrangement }
         ensures result { SameResult self.old self.new }
+        ensures regions { SameRegions self.old self.new }
     {
         self.polygons.clear();
     }

@@ -19,7 +19,10 @@ ghost use Rattle.overlay_contours.specs.Kept.{passes_of, reach_of};
 ghost use Rattle.overlay_contours.specs.Refusals.{other_shape};
 ghost use Rattle.overlay_c.specs.Contours.{are_in_range, location_code, contours_in, SameSplit, SameReport};
 ghost use Rattle.overlay_c.specs.Matrices.{IsMatrixBy};
-ghost use Rattle.overlay_c.specs.Relations.{relation_of, Holds, ShapeCountsLeaveRange, IsRelationCode};
+ghost use Rattle.overlay_c.specs.Relations.{relation_of, Holds, ShapeCountsLeaveRange, IsRelationCode, IsRegionCode};
+ghost use Rattle.overlay_c.specs.Regions.{SameRegions, AddsRegion, CountsOfShapeLeaveRange, HoldsOfRegionsAt, IsMatrixOfRegionsAt, CountsOfRegionsLeaveRange};
+ghost use Rattle.overlay_relations.specs.Boundaries.{has_inexact_crossing};
+ghost use Rattle.overlay_c.specs.Tiles.{MakesTile, AddsInTile, IsAddInTileCode, KeepsGiven};
 ghost use Rattle.overlay_relations.specs.Refusals.{IsNotExact};
 
 pub mod contours;
@@ -31,8 +34,10 @@ pub mod lines;
 pub(crate) mod raw_box;
 pub mod records;
 pub mod refusal;
+pub mod regions;
 pub mod relations;
 pub mod tags;
+pub mod tiles;
 pub mod width;
 
 use crate::contours::PointRecord;
@@ -43,9 +48,10 @@ use crate::records::{
     LineRecord, LinkRecord, ReportRecord, SegmentRecord, SettingsRecord, SizesRecord, fill_rule,
     overlay_rule, shape_type,
 };
-use crate::refusal::status;
+use crate::refusal::{Refusal, status};
 use crate::relations::{MatrixRecord, fault_code, named_relation};
 use crate::tags::{Tag, TaggedRecord};
+use crate::tiles::{TileRecord, tile};
 use overlay_base::overlay_core::clip_rule::ClipRule;
 use std::alloc::Global;
 
@@ -61,6 +67,7 @@ pub extern "C" fn overlay_c_new(alloc: Global, handle: &mut Handle, snap_limit: 
     ensures passes { IfSome handle.new.engine (λ engine. passes_of engine.polygons ≡ 0) }
     ensures arrangement { IfSome handle.new.engine HasNoArrangement }
     ensures reach { IfSome handle.new.engine (λ engine. reach_of engine.polygons ≡ 0) }
+    ensures regions { IfSome handle.new.engine (λ engine. engine.regions.items ≡ []) }
 {
     match Box::new(alloc, Engine::new(alloc, snap_limit)) {
         Ok(engine) => {
@@ -362,9 +369,70 @@ pub extern "C" fn overlay_c_add_contour(
     ensures arrangement { Turns handle.old handle.new StaysAsArranged }
     ensures result { Turns handle.old handle.new SameResult }
     ensures codes { IsAddCode result }
+    ensures regions { Turns handle.old handle.new SameRegions }
 {
     let mut engine = take(alloc, handle);
     let outcome = engine.add_contour(contour, shape_type(shape));
+    put(handle, engine);
+    status(outcome)
+}
+
+/// Copies what a tile has of a contour behind the others of the subject, where the shape's code is 0, or else of the clip:
+/// the contour, cut and clamped to the tile, or nothing where it lies beside it. What was added winds around each point of
+/// the tile as the given contours, if it is farther than half a unit from every given step that runs along no axis.
+///
+/// So the overlays that follow return the part of the overlay that belongs to the tile. By snap rounding it is right at
+/// each point of the tile that is farther than a whole unit from these steps, and all its points lie in the tile.
+///
+/// Returns 0 where it is done; else nothing is added: 1 where memory was refused, 4 where a point is out of range, 5 where
+/// the record has no tile, also where a point is out of range.
+#[unsafe(no_mangle)]
+pub extern "C" fn overlay_c_add_contour_in_tile(
+    alloc: Global,
+    handle: &mut Handle,
+    contour: &[PointRecord],
+    shape: u8,
+    borders: &TileRecord,
+) -> u8
+    requires { IsSome handle.old.engine }
+    ensures full { IsSome handle.new.engine }
+    ensures added { result ≡ 0 → Turns handle.old handle.new (AddsInTile (shape_of shape) borders.now contour.now) }
+    ensures unchanged { result ≢ 0 → Turns handle.old handle.new (SameShape (shape_of shape)) }
+    ensures other { Turns handle.old handle.new (SameShape (other_shape (shape_of shape))) }
+    ensures in_range { result ≡ 0 → IsTrue (are_in_range contour.now) }
+    ensures out_of_range { result ≡ 4 → IsFalse (are_in_range contour.now) }
+    ensures is_tile { result ≢ 5 → MakesTile borders.now }
+    ensures no_tile { result ≡ 5 → MakesTile borders.now → ⊥ }
+    ensures rest { Turns handle.old handle.new SameSplit }
+    ensures report { Turns handle.old handle.new SameReport }
+    ensures arrangement { Turns handle.old handle.new StaysAsArranged }
+    ensures result { Turns handle.old handle.new SameResult }
+    ensures codes { IsAddInTileCode result }
+{
+    let Ok(tile) = tile(borders) else {
+        return 5;
+    };
+    let mut engine = take(alloc, handle);
+    let outcome = engine.add_contour_in_tile(alloc, contour, shape_type(shape), &tile);
+    put(handle, engine);
+    status(outcome)
+}
+
+/// Keeps the contours of a shape that were added, in that order, as those of a result in no shapes: `overlay_c_contours` then
+/// copies them out. So what a tile has of contours can be handed to another process. Returns 0 where it is done, and 1
+/// where memory was refused. The contours that were added stay.
+#[unsafe(no_mangle)]
+pub extern "C" fn overlay_c_given(alloc: Global, handle: &mut Handle, shape: u8) -> u8
+    requires { IsSome handle.old.engine }
+    ensures full { IsSome handle.new.engine }
+    ensures done { result ≡ 0 → IfSome handle.new.engine (KeepsGiven (shape_of shape)) }
+    ensures codes { result < 2 }
+    ensures contours { Turns handle.old handle.new SameContours }
+    ensures rest { Turns handle.old handle.new SameSplit }
+    ensures arrangement { Turns handle.old handle.new StaysAsArranged }
+{
+    let mut engine = take(alloc, handle);
+    let outcome = engine.given(shape_type(shape));
     put(handle, engine);
     status(outcome)
 }
@@ -630,6 +698,106 @@ pub extern "C" fn overlay_c_relate(
     }
 }
 
+/// Prepares the region of the subject that was added, under the fill rule of the settings, for relations to others, and keeps it
+/// behind those that are kept. Its number is how many were kept before, from 0. The contours that were added stay.
+///
+/// Returns 0 where it is done, 1 where memory was refused, 2 where a count left the range, and 6 where two edges of the subject
+/// cross at a point without integer coordinates. After any other code than 0 the regions are those that were kept before.
+#[unsafe(no_mangle)]
+pub extern "C" fn overlay_c_add_region(
+    alloc: Global,
+    handle: &mut Handle,
+    settings: &SettingsRecord,
+) -> u8
+    requires { IsSome handle.old.engine }
+    ensures full { IsSome handle.new.engine }
+    ensures added { result ≡ 0 → Turns handle.old handle.new (AddsRegion settings.now) }
+    ensures unchanged { result ≢ 0 → Turns handle.old handle.new SameRegions }
+    ensures too_large { result ≡ 2 → IfSome handle.old.engine (λ engine. CountsOfShapeLeaveRange (contours_in engine Subject)) }
+    ensures not_exact { result ≡ 6 → IfSome handle.old.engine (λ engine. IsTrue (has_inexact_crossing (contours_in engine Subject) [])) }
+    ensures codes { IsRegionCode result }
+    ensures contours { Turns handle.old handle.new SameContours }
+    ensures rest { Turns handle.old handle.new SameSplit }
+    ensures arrangement { Turns handle.old handle.new StaysAsArranged }
+    ensures result { Turns handle.old handle.new SameResult }
+{
+    let mut engine = take(alloc, handle);
+    let outcome = engine.add_region(alloc, settings);
+    put(handle, engine);
+    match outcome {
+        Ok(()) => 0,
+        Err(fault) => fault_code(fault),
+    }
+}
+
+/// Whether a relation holds between two regions that are kept, by their numbers and the code of `overlay_c_relation`, exactly. Of
+/// the settings it takes the strategy.
+///
+/// Returns 0 where `holds` says whether it does, 1 where memory was refused, and 2 where a count left the range. After any other
+/// code than 0 `holds` is unchanged.
+#[unsafe(no_mangle)]
+pub extern "C" fn overlay_c_region_relation(
+    alloc: Global,
+    handle: &mut Handle,
+    settings: &SettingsRecord,
+    first: usize,
+    second: usize,
+    code: u8,
+    holds: &mut bool,
+) -> u8
+    requires engine { IsSome handle.old.engine }
+    requires first { IfSome handle.old.engine (λ engine. first < length engine.regions.items) }
+    requires second { IfSome handle.old.engine (λ engine. second < length engine.regions.items) }
+    ensures same { handle.new.engine ≡ handle.old.engine }
+    ensures holds { result ≡ 0 → IfSome handle.old.engine (HoldsOfRegionsAt (relation_of code) first second holds.new) }
+    ensures unchanged { result ≢ 0 → holds.new ≡ holds.old }
+    ensures too_large { result ≡ 2 → IfSome handle.old.engine (CountsOfRegionsLeaveRange first second) }
+    ensures codes { result < 3 }
+{
+    let engine = take(alloc, handle);
+    let outcome = engine.region_relation(settings, first, second, named_relation(code));
+    put(handle, engine);
+    match outcome {
+        Ok(found) => {
+            *holds = found;
+            0
+        }
+        Err(fault) => status(Err(Refusal::from(fault))),
+    }
+}
+
+/// Which parts of two regions that are kept meet, by their numbers, exactly, as `overlay_c_relate` returns it. Returns as
+/// `overlay_c_region_relation` does; after any other code than 0 `matrix` is unchanged.
+#[unsafe(no_mangle)]
+pub extern "C" fn overlay_c_region_relate(
+    alloc: Global,
+    handle: &mut Handle,
+    settings: &SettingsRecord,
+    first: usize,
+    second: usize,
+    matrix: &mut MatrixRecord,
+) -> u8
+    requires engine { IsSome handle.old.engine }
+    requires first { IfSome handle.old.engine (λ engine. first < length engine.regions.items) }
+    requires second { IfSome handle.old.engine (λ engine. second < length engine.regions.items) }
+    ensures same { handle.new.engine ≡ handle.old.engine }
+    ensures matrix { result ≡ 0 → IfSome handle.old.engine (IsMatrixOfRegionsAt first second matrix.new) }
+    ensures unchanged { result ≢ 0 → matrix.new ≡ matrix.old }
+    ensures too_large { result ≡ 2 → IfSome handle.old.engine (CountsOfRegionsLeaveRange first second) }
+    ensures codes { result < 3 }
+{
+    let engine = take(alloc, handle);
+    let outcome = engine.region_matrix(settings, first, second);
+    put(handle, engine);
+    match outcome {
+        Ok(found) => {
+            *matrix = found;
+            0
+        }
+        Err(fault) => status(Err(Refusal::from(fault))),
+    }
+}
+
 /// What the last overlay of contours, in shapes or not, reports of its run: how many passes it made, and how far these
 /// moved edges. What such an overlay leaves holds at every place that is farther than this from the edges of the
 /// contours that it was given. Both are 0 at first, and nothing is promised of them after an overlay that was refused.
@@ -673,6 +841,7 @@ pub extern "C" fn overlay_c_clear(alloc: Global, handle: &mut Handle)
     ensures report { Turns handle.old handle.new SameReport }
     ensures arrangement { Turns handle.old handle.new StaysAsArranged }
     ensures result { Turns handle.old handle.new SameResult }
+    ensures regions { Turns handle.old handle.new SameRegions }
 {
     let mut engine = take(alloc, handle);
     engine.clear_contours();

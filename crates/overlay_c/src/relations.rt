@@ -120,7 +120,7 @@ pub fn matrix(
 }
 
 /// The record of a matrix.
-fn matrix_record(relation: &PartsRelation) -> MatrixRecord
+pub(crate) fn matrix_record(relation: &PartsRelation) -> MatrixRecord
     ensures { (of_subject of_clip : Part) → entry_by result of_subject of_clip ≡ entry relation.now of_subject of_clip }
 {
     MatrixRecord {

@@ -12,6 +12,8 @@ pub mod CrossingRegions
 pub mod ExactRegions
 pub mod ExactResults
 pub mod SharedPoints
+pub mod CrossingEdges
+pub mod PureCrossings
 pub mod AcrossEdges
 pub mod SharedEdges
 pub mod Matrices

@@ -7,15 +7,22 @@ use Rattle.overlay_base.specs.declared.overlay_core.fill_rule.FillRule.TheVarian
 use Rattle.overlay_base.specs.declared.overlay_core.overlay_rule.OverlayRule.{OverlayRule}
 use Rattle.overlay_contours.specs.Beyond.{IsOverlayBeyond}
 use Rattle.overlay_relations.specs.Boundaries.{has_inexact_crossing, IsBoundaryOf}
+use Rattle.overlay_relations.specs.Crossings.{HaveCrossingEdges}
 use Rattle.overlay_relations.specs.Relations.{HasPoint, HoldsSomewhere}
 
--- Where the boundaries of two shapes cross at a point that is not whole, some points are inside both, some inside each alone, and
--- some inside neither.
+-- Where edges of the boundaries of two shapes cross, some points are inside both, some inside each alone, and some inside neither.
 abbrev pub CrossingBoundariesMeet : Type 0
 CrossingBoundariesMeet =
     (subject_rule clip_rule : FillRule) (subject clip first second : List (List Point)) →
     IsBoundaryOf subject_rule subject first → IsBoundaryOf clip_rule clip second →
-    IsTrue (has_inexact_crossing first second) → (in_subject in_clip : Bool) → HasPoint subject_rule clip_rule subject clip in_subject in_clip
+    HaveCrossingEdges first second → (in_subject in_clip : Bool) → HasPoint subject_rule clip_rule subject clip in_subject in_clip
+
+-- Two boundaries that cross at a point that is not whole have edges that cross.
+abbrev pub InexactBoundariesCross : Type 0
+InexactBoundariesCross =
+    (subject_rule clip_rule : FillRule) (subject clip first second : List (List Point)) →
+    IsBoundaryOf subject_rule subject first → IsBoundaryOf clip_rule clip second →
+    IsTrue (has_inexact_crossing first second) → HaveCrossingEdges first second
 
 -- Where the overlay of the boundaries by a rule moves nothing, it is empty exactly if the rule holds at no point.
 abbrev pub ExactBoundariesDecide : Type 0

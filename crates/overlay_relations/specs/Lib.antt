@@ -1,5 +1,7 @@
 pub mod Relations
 pub mod Boundaries
+pub mod Crossings
+pub mod BoundaryOf
 pub mod Contacts
 pub mod Matrix
 pub mod Patterns

@@ -9,7 +9,8 @@ use Rattle.overlay_base.specs.declared.overlay_core.overlay_rule.OverlayRule.{Ov
 use Rattle.overlay_base.specs.declared.overlay_core.overlay_rule.OverlayRule.TheVariants.{Subject, Clip, Intersect, Union, Difference, InverseDifference}
 use Rattle.overlay_contours.specs.Beyond.{IsOverlayBeyond}
 use Rattle.overlay_contours.specs.Contours.{edges}
-use Rattle.overlay_relations.specs.Boundaries.{has_inexact_crossing, IsBoundaryOf}
+use Rattle.overlay_relations.specs.Boundaries.{IsBoundaryOf}
+use Rattle.overlay_relations.specs.Crossings.{HaveCrossingEdges}
 use Rattle.overlay_relations.specs.ContactLaws.{HaveCommonPoint}
 use Rattle.overlay_relations.specs.Matrix.{PartsMeet}
 use Rattle.overlay_relations.specs.declared.matrix.Part.{Part}
@@ -52,9 +53,9 @@ MatrixByRegions =
     × (PartsMeet subject_rule clip_rule subject clip Exterior Boundary ↔ HaveCommonEdge either clip_alone)
     × PartsMeet subject_rule clip_rule subject clip Exterior Exterior
 
--- Where the boundaries cross at a point that is not whole, each part of the one shape meets each part of the other.
+-- Where edges of the boundaries cross, each part of the one shape meets each part of the other.
 abbrev pub CrossingBoundariesMeetAll : Type 0
 CrossingBoundariesMeetAll =
     (subject_rule clip_rule : FillRule) (subject clip first second : List (List Point)) →
     IsBoundaryOf subject_rule subject first → IsBoundaryOf clip_rule clip second →
-    IsTrue (has_inexact_crossing first second) → (of_subject of_clip : Part) → PartsMeet subject_rule clip_rule subject clip of_subject of_clip
+    HaveCrossingEdges first second → (of_subject of_clip : Part) → PartsMeet subject_rule clip_rule subject clip of_subject of_clip

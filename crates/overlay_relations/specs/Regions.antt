@@ -2,8 +2,8 @@
 use Rattle.std.specs.Prelude.{◌≡◌, ◌↔◌, Bool, true, List}
 use Rattle.overlay_geometry.specs.Points.{Point}
 use Rattle.overlay_base.specs.declared.overlay_core.fill_rule.FillRule.{FillRule}
-use Rattle.overlay_contours.specs.ContoursOf.{contours_of}
 use Rattle.overlay_relations.specs.Boundaries.{IsBoundaryOf}
+use Rattle.overlay_relations.specs.BoundaryOf.{contours_in}
 use Rattle.overlay_relations.specs.Contacts.{SharePoint, AreDisjoint, Touch}
 use Rattle.overlay_relations.specs.Matrix.{IsMatrix}
 use Rattle.overlay_relations.specs.Relations.{InteriorsMeet, Covers, IsWithin, AreSameRegion}
@@ -12,7 +12,7 @@ use Rattle.overlay_relations.specs.declared.region.Region.{Region}
 
 -- the boundary that a region keeps
 abbrev pub boundary_of : {I : Type 0} {w : _} {o : _} {e : _} {p : _} → Region I w o e p → List (List Point)
-boundary_of {w = w} region = contours_of w.whole region.boundary.items
+boundary_of region = contours_in region.boundary
 
 -- The region is that of contours under a fill rule.
 abbrev pub IsRegionOf : {I : Type 0} {w : _} {o : _} {e : _} {p : _} → FillRule → List (List Point) → Region I w o e p → Type 0

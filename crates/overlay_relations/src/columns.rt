@@ -1,9 +1,10 @@
 // Which of many boxes share a point with a box: boxes in columns, each with a box around its members.
-ghost use Rattle.std.specs.Prelude.{◌≡◌, ◌↔◌, ◌++◌, [], ℕ, All, Contains, OnOk, IfOk, IfNone, IfSome, IsPermutation};
+ghost use Rattle.std.specs.Prelude.{◌≡◌, ◌↔◌, ◌++◌, [], ℕ, All, Contains, OnOk, IfOk, IsPermutation};
 ghost use Rattle.std.specs.List.Sorted.{IsStrictlyIncreasing};
 ghost use Rattle.overlay_geometry.specs.RangeOf.{rect_of};
-ghost use Rattle.overlay_relations.specs.steps.Columns.{members_of, numbers_meeting, HoldsBoxes, IsBoxWithin, AreAround};
+ghost use Rattle.overlay_relations.specs.steps.Columns.{members_of, numbers_meeting, HoldsBoxes, AreAround};
 
+use crate::boxes::bounds_with;
 use overlay_geometry::geom::rect::IntRect;
 use overlay_geometry::num::OverlayInt;
 use std::alloc::{AllocError, Global};
@@ -70,22 +71,6 @@ fn bounds_of<I: OverlayInt>(boxes: &[NumberedBox<I>]) -> Option<IntRect<I>>
         bounds = Some(bounds_with(bounds, numbered.bounds));
     }
     bounds
-}
-
-/// The least box around one, if there is one, and another.
-fn bounds_with<I: OverlayInt>(found: Option<IntRect<I>>, more: IntRect<I>) -> IntRect<I>
-    ensures found { IfSome found (λ found. IsBoxWithin (rect_of I.whole found) (rect_of I.whole result)) }
-    ensures more { IsBoxWithin (rect_of I.whole more) (rect_of I.whole result) }
-{
-    match found {
-        None => more,
-        Some(found) => IntRect {
-            min_x: found.min_x.min(more.min_x),
-            max_x: found.max_x.max(more.max_x),
-            min_y: found.min_y.min(more.min_y),
-            max_y: found.max_y.max(more.max_y),
-        },
-    }
 }
 
 /// The numbers of the boxes that share a point with a box, in order.

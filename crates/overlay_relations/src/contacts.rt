@@ -12,10 +12,12 @@ ghost use Rattle.overlay_contours.specs.ContoursOf.{points_of, contours_of};
 ghost use Rattle.overlay_contours.specs.Splittings.{by_snapping};
 ghost use Rattle.overlay_relations.specs.Contacts.{AreDisjoint, Touch};
 ghost use Rattle.overlay_relations.specs.ContactLaws.{HaveCommonPoint};
+ghost use Rattle.overlay_relations.specs.BoundaryOf.{contours_in};
 ghost use Rattle.overlay_relations.specs.Refusals.{IsRefusalOf, IsOverlayRefusal};
 ghost use Rattle.overlay_relations.specs.declared.contacts.Contact.TheVariants.{Apart, Touching};
 ghost use Rattle.overlay_relations.specs.steps.ContactOutcomes.{IsContact, IsBoundaryContact, ShareSome};
 
+use crate::boundary::Boundary;
 use crate::boxes::{bounds_of, do_boxes_meet};
 use crate::fault::RelationFault;
 use crate::predicates::{add_contours, exact_boundary, test_range};
@@ -136,18 +138,19 @@ fn find_contact<I: OverlayInt>(
 /// How the shapes meet that have these boundaries.
 pub(crate) fn boundary_contact<I: OverlayInt>(
     alloc: Global,
-    first: &[IntContour<I>],
-    second: &[IntContour<I>],
+    first: &Boundary<I>,
+    second: &Boundary<I>,
     solver: &Solver,
 ) -> Result<Contact, ContourFault>
-    requires first { LieInRange I.whole I.MIN_COORD I.MAX_COORD first.now }
-    requires second { LieInRange I.whole I.MIN_COORD I.MAX_COORD second.now }
-    ensures contact { IfOk result (IsBoundaryContact (contours_of I.whole first.now) (contours_of I.whole second.now)) }
-    ensures refused { IfErr result (IsOverlayRefusal (contours_of I.whole first.now) (contours_of I.whole second.now)) }
+    ensures contact { IfOk result (IsBoundaryContact (contours_in first.now) (contours_in second.now)) }
+    ensures refused { IfErr result (IsOverlayRefusal (contours_in first.now) (contours_in second.now)) }
 {
+    if first.finds_crossing(second)? {
+        return Ok(Contact::Meeting);
+    }
     let mut overlay = Overlay::new(alloc);
-    add_contours(&mut overlay, first, ShapeType::Subject)?;
-    add_contours(&mut overlay, second, ShapeType::Clip)?;
+    add_contours(&mut overlay, &first.contours, ShapeType::Subject)?;
+    add_contours(&mut overlay, &second.contours, ShapeType::Clip)?;
     let mut arrangement = overlay.arrange(solver, FillRule::NonZero)?;
     if arrangement.reach() != 0 {
         return Ok(Contact::Meeting);

@@ -1,6 +1,7 @@
 // Why a relation of two shapes is refused.
 ghost use Rattle.std.specs.Prelude.{◌≡◌};
 
+use overlay_base::segm::fault::Fault;
 use overlay_base::segm::shape_type::ShapeType;
 use overlay_contours::fault::ContourFault;
 use thiserror::Error;
@@ -23,5 +24,16 @@ impl From<ContourFault> for RelationFault {
 
     fn from(fault: ContourFault) -> RelationFault {
         RelationFault::Refused(fault)
+    }
+}
+
+impl From<Fault> for RelationFault {
+    ghost use Rattle.overlay_contours.specs.declared.fault.ContourFault.TheVariants.{Refused as RefusedContours};
+    ghost use Rattle.overlay_relations.specs.declared.fault.RelationFault.TheVariants.{Refused};
+
+    ghost from_gives = { λ fault refused. refused ≡ Refused (RefusedContours fault) };
+
+    fn from(fault: Fault) -> RelationFault {
+        RelationFault::Refused(ContourFault::Refused(fault))
     }
 }

@@ -1,5 +1,5 @@
 // Which parts of two shapes meet: the inside, the boundary and the outside of the one with those of the other, without rounding.
-// Where boundaries cross at a point without integer coordinates, all parts meet. Else six regions of one arrangement decide it.
+// Where edges of the boundaries cross, all parts meet. Else six regions of one arrangement decide it.
 ghost use Rattle.std.specs.Prelude.{◌≡◌, ◌↔◌, true, IsTrue, List, Contains, IsSortedByKey, OnOk, IfOk, IfErr, IfNone, IfSome, IsFalse, map};
 ghost use Rattle.overlay_geometry.specs.PairOf.{pair_of};
 ghost use Rattle.overlay_geometry.specs.Points.{Point, Pair, pair_cmp};
@@ -14,9 +14,11 @@ ghost use Rattle.overlay_contours.specs.Splittings.{by_snapping};
 ghost use Rattle.overlay_relations.specs.Matrix.{entry, IsMatrix};
 ghost use Rattle.overlay_relations.specs.MatrixLaws.{HaveCommonEdge};
 ghost use Rattle.overlay_relations.specs.Patterns.{is_letter, is_pattern, allows, Fits};
+ghost use Rattle.overlay_relations.specs.BoundaryOf.{contours_in};
 ghost use Rattle.overlay_relations.specs.Refusals.{IsRefusalOf, IsOverlayRefusal};
 ghost use Rattle.overlay_relations.specs.steps.MatrixOutcomes.{IsBoundaryMatrix, ShareSomePair};
 
+use crate::boundary::Boundary;
 use crate::contacts::have_common_point;
 use crate::fault::RelationFault;
 use crate::predicates::{add_contours, exact_boundary, test_range};
@@ -160,18 +162,19 @@ pub fn relate<I: OverlayInt>(
 /// Which parts of the shapes meet that have these boundaries.
 pub(crate) fn boundary_relation<I: OverlayInt>(
     alloc: Global,
-    first: &[IntContour<I>],
-    second: &[IntContour<I>],
+    first: &Boundary<I>,
+    second: &Boundary<I>,
     solver: &Solver,
 ) -> Result<Relation, ContourFault>
-    requires first { LieInRange I.whole I.MIN_COORD I.MAX_COORD first.now }
-    requires second { LieInRange I.whole I.MIN_COORD I.MAX_COORD second.now }
-    ensures matrix { IfOk result (IsBoundaryMatrix (contours_of I.whole first.now) (contours_of I.whole second.now)) }
-    ensures refused { IfErr result (IsOverlayRefusal (contours_of I.whole first.now) (contours_of I.whole second.now)) }
+    ensures matrix { IfOk result (IsBoundaryMatrix (contours_in first.now) (contours_in second.now)) }
+    ensures refused { IfErr result (IsOverlayRefusal (contours_in first.now) (contours_in second.now)) }
 {
+    if first.finds_crossing(second)? {
+        return Ok(all_meet());
+    }
     let mut overlay = Overlay::new(alloc);
-    add_contours(&mut overlay, first, ShapeType::Subject)?;
-    add_contours(&mut overlay, second, ShapeType::Clip)?;
+    add_contours(&mut overlay, &first.contours, ShapeType::Subject)?;
+    add_contours(&mut overlay, &second.contours, ShapeType::Clip)?;
     let mut arrangement = overlay.arrange(solver, FillRule::NonZero)?;
     if arrangement.reach() != 0 {
         return Ok(all_meet());

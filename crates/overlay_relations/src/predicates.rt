@@ -9,10 +9,12 @@ ghost use Rattle.overlay_contours.specs.Kept.{contours_kept, KeepsContours, Keep
 ghost use Rattle.overlay_contours.specs.Refusals.{other_shape, IsShapeOutside};
 ghost use Rattle.overlay_contours.specs.declared.fault.ContourFault.TheVariants.{Refused as RefusedContours};
 ghost use Rattle.overlay_relations.specs.Boundaries.{has_inexact_crossing, IsBoundaryOf};
+ghost use Rattle.overlay_relations.specs.BoundaryOf.{contours_in};
 ghost use Rattle.overlay_relations.specs.Refusals.{IsRefusalOf, IsOverlayRefusal};
 ghost use Rattle.overlay_relations.specs.Relations.{InteriorsMeet, Covers, IsWithin, AreSameRegion, HoldsSomewhere};
 ghost use Rattle.overlay_relations.specs.steps.Outcomes.{DecidesBetween, IsExactOverlay, IsBoundaryRefusal};
 
+use crate::boundary::Boundary;
 use crate::fault::RelationFault;
 use overlay_base::overlay_core::fill_rule::FillRule;
 use overlay_base::overlay_core::overlay_rule::OverlayRule;
@@ -162,25 +164,26 @@ fn holds_somewhere<I: OverlayInt>(
 }
 
 /// Whether a rule, which does not hold outside of both shapes, holds at some point that is on no edge of them, by the
-/// boundaries of the shapes.
+/// boundaries of the shapes. Where these are found to cross, it does, whatever the rule.
 pub(crate) fn holds_between<I: OverlayInt>(
     alloc: Global,
-    first: &[IntContour<I>],
-    second: &[IntContour<I>],
+    first: &Boundary<I>,
+    second: &Boundary<I>,
     solver: &Solver,
     overlay_rule: OverlayRule,
 ) -> Result<bool, ContourFault>
-    requires first { LieInRange I.whole I.MIN_COORD I.MAX_COORD first.now }
-    requires second { LieInRange I.whole I.MIN_COORD I.MAX_COORD second.now }
     requires outside { holds overlay_rule false false ≡ false }
     requires inside { IsTrue (holds overlay_rule true true || holds overlay_rule true false || holds overlay_rule false true) }
-    ensures holds { IfOk result (DecidesBetween overlay_rule (contours_of I.whole first.now) (contours_of I.whole second.now)) }
-    ensures refused { IfErr result (IsOverlayRefusal (contours_of I.whole first.now) (contours_of I.whole second.now)) }
+    ensures holds { IfOk result (DecidesBetween overlay_rule (contours_in first.now) (contours_in second.now)) }
+    ensures refused { IfErr result (IsOverlayRefusal (contours_in first.now) (contours_in second.now)) }
 {
+    if first.finds_crossing(second)? {
+        return Ok(true);
+    }
     match exact_overlay(
         alloc,
-        first,
-        second,
+        &first.contours,
+        &second.contours,
         solver,
         FillRule::NonZero,
         overlay_rule,
@@ -216,12 +219,10 @@ pub(crate) fn exact_boundary<I: OverlayInt>(
     shape_type: ShapeType,
     solver: &Solver,
     fill_rule: FillRule,
-) -> Result<Vec<IntContour<I>>, RelationFault>
+) -> Result<Boundary<I>, RelationFault>
     requires in_range { LieInRange I.whole I.MIN_COORD I.MAX_COORD contours.now }
-    ensures boundary { IfOk result (λ boundary. IsBoundaryOf fill_rule (contours_of I.whole contours.now)
-        (contours_of I.whole boundary.items)) }
+    ensures boundary { IfOk result (λ boundary. IsBoundaryOf fill_rule (contours_of I.whole contours.now) (contours_in boundary)) }
     ensures exact { OnOk result (IsFalse (has_inexact_crossing (contours_of I.whole contours.now) [])) }
-    ensures in_range { IfOk result (λ boundary. LieInRange I.whole I.MIN_COORD I.MAX_COORD boundary.items) }
     ensures refused { IfErr result (IsBoundaryRefusal shape_type (contours_of I.whole contours.now)) }
 {
     let none = Vec::new(alloc);
@@ -234,7 +235,7 @@ pub(crate) fn exact_boundary<I: OverlayInt>(
         OverlayRule::Subject,
     )? {
         None => Err(RelationFault::NotExact(shape_type)),
-        Some(boundary) => Ok(boundary),
+        Some(contours) => Ok(Boundary::of(alloc, contours)?),
     }
 }
 

@@ -4,10 +4,11 @@ ghost use Rattle.overlay_base.specs.declared.segm.shape_type.ShapeType.TheVarian
 ghost use Rattle.overlay_contours.specs.Boxes.{all_points};
 ghost use Rattle.overlay_contours.specs.ContoursIn.{LieInRange};
 ghost use Rattle.overlay_contours.specs.ContoursOf.{contours_of};
-ghost use Rattle.overlay_contours.specs.ContourSegments.{are_in_range};
 ghost use Rattle.overlay_relations.specs.Boxes.{are_held, do_boxes_meet};
+ghost use Rattle.overlay_relations.specs.BoundaryOf.{contours_in};
 ghost use Rattle.overlay_relations.specs.Refusals.{IsOverlayRefusal, IsRegionRefusalOf};
 
+use crate::boundary::Boundary;
 use crate::boxes::{bounds_of, do_boxes_meet};
 use crate::contacts::{boundary_contact, is_apart, is_sharing, is_touching};
 use crate::fault::RelationFault;
@@ -28,11 +29,9 @@ use std::alloc::Global;
 #[derive(Drop)]
 pub struct Region<I: OverlayInt> {
     alloc: Global,
-    boundary: Vec<IntContour<I>>,
+    boundary: Boundary<I>,
     bounds: Option<IntRect<I>>,
-    pub ghost in_range: { IsTrue (are_in_range (I.whole I.MIN_COORD) (I.whole I.MAX_COORD)
-        (contours_of I.whole boundary.items)) },
-    pub ghost bounded: { IsTrue (are_held I.whole (all_points (contours_of I.whole boundary.items)) bounds) },
+    pub ghost bounded: { IsTrue (are_held I.whole (all_points (contours_in boundary)) bounds) },
 }
 
 impl<I: OverlayInt> Region<I> {
@@ -57,7 +56,7 @@ impl<I: OverlayInt> Region<I> {
     {
         test_range(contours, ShapeType::Subject)?;
         let boundary = exact_boundary(alloc, contours, ShapeType::Subject, solver, fill_rule)?;
-        let bounds = bounds_of(&boundary);
+        let bounds = bounds_of(&boundary.contours);
         Ok(Region {
             alloc,
             boundary,
@@ -70,7 +69,7 @@ impl<I: OverlayInt> Region<I> {
         ensures boundary { contours_of I.whole result.now ≡ boundary_of self.now }
         ensures in_range { LieInRange I.whole I.MIN_COORD I.MAX_COORD result.now }
     {
-        &self.boundary
+        &self.boundary.contours
     }
 
     /// The least box around the boundary, if there is one.

@@ -7,6 +7,8 @@ pub mod Batches
 pub mod Resolved
 pub mod LineWalks
 pub mod Cells
+pub mod Distances
+pub mod InnerBoxes
 pub mod Met
 pub mod InOrder
 pub mod Recorded

@@ -5,6 +5,7 @@ pub mod cells;
 mod closure;
 mod collinear;
 pub mod cut_finder;
+mod inner_box;
 pub mod laws;
 mod meetings;
 mod ordered_points;

@@ -37,6 +37,12 @@ pub enum Stop {
     /// Lines are numbered from 1, empty ones too.
     #[error("line {number}: {fault}")]
     Line { number: usize, fault: LineFault },
+    /// A relation is wanted, and two edges of the subject cross at a point without integer coordinates.
+    #[error("two edges of the subject cross at a point without integer coordinates")]
+    SubjectNotExact,
+    /// The same of the clip, and not of the subject.
+    #[error("two edges of the clip cross at a point without integer coordinates")]
+    ClipNotExact,
     /// The engine, or the allocator, refused.
     #[error("{0}")]
     Refused(Fault),
@@ -78,7 +84,7 @@ impl Stop {
         match self {
             Stop::Usage | Stop::NotTwoSegments | Stop::NoRule => 2,
             Stop::Line { .. } => 3,
-            Stop::Refused(_) => 4,
+            Stop::SubjectNotExact | Stop::ClipNotExact | Stop::Refused(_) => 4,
             Stop::Input | Stop::Output => 5,
         }
     }

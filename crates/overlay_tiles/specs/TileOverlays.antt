@@ -11,12 +11,12 @@ use Rattle.overlay_base.specs.declared.overlay_core.overlay_rule.OverlayRule.{Ov
 use Rattle.overlay_build.specs.Boundary.{truth}
 use Rattle.overlay_contours.specs.Contours.{AreProper, edges, winding_number}
 use Rattle.overlay_contours.specs.ContourSegments.{are_in_range, IsFirstOutside}
-use Rattle.overlay_contours.specs.Polygons.{is_in_overlay}
+use Rattle.overlay_contours.specs.Polygons.{IsPolygonOverlay, is_in_overlay}
 use Rattle.overlay_contours.specs.Refusals.{of_shape, IsReason}
 use Rattle.overlay_contours.specs.Splittings.{by_snapping}
 use Rattle.overlay_contours.specs.declared.fault.ContourFault.{ContourFault}
 use Rattle.overlay_contours.specs.declared.fault.ContourFault.TheVariants.{OutOfRange, Refused}
-use Rattle.overlay_tiles.specs.Tiles.{BelongsToTile, in_tile}
+use Rattle.overlay_tiles.specs.Tiles.{IsTile, BelongsToTile, in_tile}
 use Rattle.overlay_tiles.specs.Laws.{LieInTile, IsFarOffAxes}
 
 -- what the overlay of a subject's and a clip's contours returns for one tile
@@ -42,3 +42,9 @@ abbrev pub IsTileRefusal : ℤ → ℤ → Rect → List (List Point) → List (
 IsTileRefusal least greatest tile subject clip (OutOfRange shape_type contour point) = IsFirstOutside least greatest (of_shape shape_type subject clip) contour point
 IsTileRefusal least greatest tile subject clip (Refused fault) =
     IsTrue (are_in_range least greatest subject) × IsTrue (are_in_range least greatest clip) × IsReason by_snapping (in_tile tile subject) (in_tile tile clip) fault
+
+-- The overlay by snap rounding of what a tile has of given contours is the part of theirs that belongs to the tile.
+abbrev pub OverlaysInTileAreParts : Type 0
+OverlaysInTileAreParts =
+    (tile : Rect) → IsTile tile → (rule : OverlayRule) (fill_rule : FillRule) (subject clip answer : List (List Point)) →
+    IsPolygonOverlay by_snapping rule fill_rule (in_tile tile subject) (in_tile tile clip) answer → IsTilePart tile rule fill_rule subject clip answer

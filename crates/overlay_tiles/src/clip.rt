@@ -1,5 +1,5 @@
 // Contours cut and clamped to a tile. This project's own.
-ghost use Rattle.std.specs.Prelude.{◌≡◌, ◌++◌, ◌∷◌, [], ◌&&◌, IsTrue, ◌+◌, int_le, IfOk, OnOk, map, drop};
+ghost use Rattle.std.specs.Prelude.{◌≡◌, ◌++◌, ◌∷◌, [], ◌&&◌, IsTrue, ◌+◌, int_le, IfOk, IfSome, OnOk, map, drop};
 ghost use Rattle.std.specs.List.{list_all};
 ghost use Rattle.overlay_geometry.specs.InRange.{IsPointInRange, IsPairInRange};
 ghost use Rattle.overlay_geometry.specs.PairOf.{pair_of};
@@ -9,7 +9,7 @@ ghost use Rattle.overlay_contours.specs.ContoursOf.{points_of, contours_of};
 ghost use Rattle.overlay_contours.specs.ContoursIn.{LieInRange, LiesInRange};
 ghost use Rattle.overlay_tiles.specs.Laws.{WindAlikeInTile, LieInTile, LieNearGiven};
 ghost use Rattle.overlay_tiles.specs.Tiles.{clamp, borders, step_points, clipped, is_beside, thinned, in_tile};
-ghost use Rattle.overlay_tiles.specs.TileOf.{tile_of};
+ghost use Rattle.overlay_tiles.specs.TileOf.{tile_of, part_of};
 ghost use Rattle.overlay_tiles.specs.steps.Parted.{parted};
 
 use crate::tile::Tile;
@@ -48,15 +48,36 @@ pub fn clip_to_tile<I: OverlayInt>(
     ensures in_range { IfOk result (λ answer. LieInRange I.whole I.MIN_COORD I.MAX_COORD answer.items) }
 {
     let mut answer = Vec::new(alloc);
-    let mut cut = Vec::new(alloc);
     for contour in contours {
-        if !is_beside(tile, contour) {
-            clip_contour(tile, contour, &mut cut)?;
-            let points = thinned(alloc, tile, &cut)?;
+        if let Some(points) = contour_in_tile(alloc, tile, contour)? {
             answer.push(points)?;
         }
     }
     Ok(answer)
+}
+
+/// What a tile needs of one contour: the contour that `clip_to_tile` makes of it, or `None` where it lies beside the tile.
+///
+/// All its points have to be in range. So what a tile needs of several contours may be gathered one by one, and those that
+/// are given need not be kept. Returns `AllocError` where a growth is refused.
+pub fn contour_in_tile<I: OverlayInt>(
+    alloc: Global,
+    tile: &Tile<I>,
+    contour: &[IntPoint<I>],
+) -> Result<Option<IntContour<I>>, AllocError>
+    requires { LiesInRange I.whole I.MIN_COORD I.MAX_COORD contour.now }
+    ensures contour { IfOk result (λ answer. part_of I.whole answer
+        ≡ in_tile (tile_of I.whole tile.now) (points_of I.whole contour.now ∷ [])) }
+    ensures in_range { IfOk result (λ answer. IfSome answer (λ points.
+        LiesInRange I.whole I.MIN_COORD I.MAX_COORD points.items)) }
+{
+    if is_beside(tile, contour) {
+        return Ok(None);
+    }
+    let mut cut = Vec::new(alloc);
+    clip_contour(tile, contour, &mut cut)?;
+    let points = thinned(alloc, tile, &cut)?;
+    Ok(Some(points))
 }
 
 /// Makes a list that of the points of a contour, cut and clamped to a tile as by `clip_to_tile`, whatever it was.

@@ -5,6 +5,7 @@ use Rattle.std.proofs.lemmas.List.Elements.{All-contains, Contains-append_right}
 use Rattle.std.proofs.lemmas.List.Folds.{list_all-append}
 use Rattle.std.proofs.lemmas.List.Elements.{filter-append}
 use Rattle.std.specs.Prelude.{IfOk, IfErr, IsFalse, Contains, codes, bytes_eq, flat_map}
+use Rattle.std.specs.List.{list_any}
 use Rattle.std.specs.declared.result.Result.{Result}
 use Rattle.overlay_geometry.specs.Points.{Point}
 use Rattle.overlay_geometry.specs.Coordinates.{is_point_in_range}
@@ -62,9 +63,12 @@ or_true true = refl
 or_true false = refl
 
 -- a word among others
+pub any-here : (is : List ℕ → Bool) (word : List ℕ) (before after : List (List ℕ)) → is word ≡ true → list_any is (before ++ word ∷ after) ≡ true
+any-here is word [] after same = rw same refl
+any-here is word (b ∷ before) after same = ap (λ e. is b || e) (any-here is word before after same) ∙ or_true (is b)
+
 pub is_among-here : (name word : List ℕ) (before after : List (List ℕ)) → bytes_eq word name ≡ true → is_among (before ++ word ∷ after) name ≡ true
-is_among-here name word [] after same = rw same refl
-is_among-here name word (b ∷ before) after same = ap (λ e. bytes_eq b name || e) (is_among-here name word before after same) ∙ or_true (bytes_eq b name)
+is_among-here name word before after same = any-here (λ w. bytes_eq w name) word before after same
 
 -- the splitting of the rounding that the choices name
 pub splitting_is : (bits : ℕ) (choices : Choices) (solver : Solver) (rounding : Rounding) → rounding ≡ rounding_by choices → solver.precision ≡ choices.settings.precision → splitting_for rounding bits solver ≡ splitting_by bits choices

@@ -1,3 +1,4 @@
 pub mod ContourText
 pub mod Wkt
+pub mod RelationText
 pub mod Run

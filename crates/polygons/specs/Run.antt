@@ -1,6 +1,6 @@
 -- What the program makes of the text of its input.
-use Rattle.std.specs.Prelude.{◌≡◌, ◌≢◌, ◌⊎◌, ◌||◌, ◌&&◌, ℕ, ℤ, Bool, true, false, not, MatchBool, if◌then◌else◌, List, [], ◌∷◌, ⊤, ◌++◌, All, filter, flat_map, None, Some, Ok, Err, codes, bytes_eq}
-use Rattle.std.specs.List.{list_any}
+use Rattle.std.specs.Prelude.{◌≡◌, ◌≢◌, ◌⊎◌, ◌||◌, ◌&&◌, ℕ, ℤ, Bool, true, false, not, MatchBool, if◌then◌else◌, List, [], ◌∷◌, ⊤, ◌++◌, All, filter, flat_map, None, Some, Ok, Err, codes, bytes_eq, eqb}
+use Rattle.std.specs.List.{list_any, starts_with}
 use Rattle.std.specs.declared.result.Result.{Result}
 use Rattle.overlay_geometry.specs.Points.{Point}
 use Rattle.overlay_base.specs.Radius.{exponent_cap}
@@ -28,6 +28,7 @@ use Rattle.overlay_text.specs.Runs.{Behavior}
 use Rattle.overlay_text.specs.Text.{lines_of, AskInTurn, IsFirstFaultOf}
 use Rattle.overlay_text.specs.Words.{setting, WordsSet}
 use Rattle.polygons.specs.ContourText.{GivenContour, AsksForContours, IsFaultyContour, subject_of, clip_of, contour_lines, overlays_text, shape_lines, report_text}
+use Rattle.polygons.specs.RelationText.{IsGivenRelation}
 use Rattle.polygons.specs.Wkt.{AsksForPolygons, AreFaultyPolygons, multipolygon_line}
 use Rattle.polygons.specs.declared.run.Choices.{Choices}
 
@@ -56,7 +57,21 @@ adds_rule word =
 abbrev pub is_flag : List ℕ → Bool
 is_flag word =
     bytes_eq word (codes "shapes") || (bytes_eq word (codes "report") || (bytes_eq word (codes "pairwise")
-    || (bytes_eq word (codes "format=wkt") || (bytes_eq word (codes "contours=clip") || adds_rule word))))
+    || (bytes_eq word (codes "format=wkt") || (bytes_eq word (codes "contours=clip") || (bytes_eq word (codes "relate") || adds_rule word)))))
+
+-- a word that sets the rule
+abbrev pub sets_rule : List ℕ → Bool
+sets_rule word = starts_with eqb word (codes "rule=")
+
+-- a word that chooses something of an overlay: what its output is, how crossings are rounded, or a rule
+abbrev pub is_of_overlay : List ℕ → Bool
+is_of_overlay word =
+    bytes_eq word (codes "shapes") || (bytes_eq word (codes "report") || (bytes_eq word (codes "pairwise")
+    || (adds_rule word || sets_rule word)))
+
+-- one of the words does so
+abbrev pub have_overlay_word : List (List ℕ) → Bool
+have_overlay_word words = list_any is_of_overlay words
 
 -- the shape of the contours on lines of an output
 abbrev pub contour_shape_among : List (List ℕ) → ShapeType
@@ -96,9 +111,9 @@ rules_by choices rule = rule ∷ chosen_of named_rules choices.others
 abbrev pub without_flags : List (List ℕ) → List (List ℕ)
 without_flags words = filter (λ word. not (is_flag word)) words
 
--- The words make these choices: each of `shapes`, `report`, `pairwise`, `format=wkt` and the words that add rules is among them where it is
--- chosen, and the others set the settings. Lines of an output are contours of the subject, and after `contours=clip` of the clip. Rules are
--- added to contours as lines alone.
+-- The words make these choices: each of `shapes`, `report`, `pairwise`, `format=wkt`, `relate` and the words that add rules is among them
+-- where it is chosen, and the others set the settings. Lines of an output are contours of the subject, and after `contours=clip` of the clip.
+-- Rules are added to contours as lines alone. No word of an overlay goes with a relation.
 pub record AskFor (words : List (List ℕ)) (choices : Choices) : Type 0 where
   pub in_shapes : choices.in_shapes ≡ is_among words (codes "shapes")
   pub has_report : choices.has_report ≡ is_among words (codes "report")
@@ -106,7 +121,9 @@ pub record AskFor (words : List (List ℕ)) (choices : Choices) : Type 0 where
   pub is_wkt : choices.is_wkt ≡ is_among words (codes "format=wkt")
   pub contour_shape : choices.contour_shape ≡ contour_shape_among words
   pub others : choices.others ≡ others_among words
+  pub is_relation : choices.is_relation ≡ is_among words (codes "relate")
   pub of_lines : is_mixed choices ≡ false
+  pub alone : choices.is_relation && have_overlay_word words ≡ false
   pub settings : Set (without_flags words) choices.settings
 
 -- what passes over pairs are set to, in coordinates of that many bits
@@ -205,10 +222,21 @@ IsRuleAnswer least greatest bits choices rule bytes answer =
     (MatchBool choices.is_wkt (IsWktAnswer least greatest (IsWktText bits choices rule) bytes answer) (IsContourAnswer choices.contour_shape least greatest (IsText choices.in_shapes bits choices rule) bytes answer))
 
 -- the same by the rule that the settings choose, and the stop where they choose none
-abbrev pub IsPolygonsAnswer : ℤ → ℤ → ℕ → Choices → List ℕ → Result (List ℕ) Stop → Type 0
-IsPolygonsAnswer least greatest bits choices bytes answer =
+abbrev pub IsOverlayAnswer : ℤ → ℤ → ℕ → Choices → List ℕ → Result (List ℕ) Stop → Type 0
+IsOverlayAnswer least greatest bits choices bytes answer =
     ((rule : OverlayRule) × (choices.settings.rule ≡ Some rule) × IsRuleAnswer least greatest bits choices rule bytes answer)
     ⊎ ((choices.settings.rule ≡ None) × (answer ≡ Err NoRule))
+
+-- the relation of the contours that the lines of a text write, as WKT or not, or the first fault of its lines
+abbrev pub IsRelationAnswer : ℤ → ℤ → Choices → List ℕ → Result (List ℕ) Stop → Type 0
+IsRelationAnswer least greatest choices bytes answer =
+    MatchBool choices.is_wkt (IsWktAnswer least greatest (IsGivenRelation choices.settings.fill_rule) bytes answer)
+    (IsContourAnswer choices.contour_shape least greatest (IsGivenRelation choices.settings.fill_rule) bytes answer)
+
+-- that relation, if it is wanted, and else the overlay
+abbrev pub IsPolygonsAnswer : ℤ → ℤ → ℕ → Choices → List ℕ → Result (List ℕ) Stop → Type 0
+IsPolygonsAnswer least greatest bits choices bytes answer =
+    MatchBool choices.is_relation (IsRelationAnswer least greatest choices bytes answer) (IsOverlayAnswer least greatest bits choices bytes answer)
 
 -- which choices words make, and what the result is, in the coordinates of the engine that they choose
 abbrev pub polygons_behavior : Behavior Choices

@@ -4,7 +4,7 @@
 ghost use Rattle.std.specs.Prelude.{◌<◌, ◌≤◌, length, IfSome};
 
 use crate::contour_lines::named_shape;
-use crate::run::{is_flag, is_for_arrange, read_polygon_settings};
+use crate::run::{is_flag, is_for_arrange, is_of_overlay, read_polygon_settings};
 use overlay_base::segm::shape_type::ShapeType;
 use overlay_text::lines::Lines;
 use overlay_text::number::signed_number;
@@ -106,6 +106,13 @@ pub fn explain_words(alloc: Global, words: &[String]) -> Result<String, AllocErr
             continue;
         }
         return Ok(text);
+    }
+    for word in words {
+        if is_of_overlay(word.as_str()) && words.iter().any(|other| other.as_str() == "relate") {
+            show(&mut text, word.as_bytes())?;
+            text.push_str(" is for overlays, and `relate` writes none")?;
+            return Ok(text);
+        }
     }
     text.push_str("`also=NAME` is for contours as lines: leave out `shapes` and `format=wkt`")?;
     Ok(text)

@@ -3,9 +3,10 @@ use std::env;
 use std::rt::Env;
 
 /// What the program does, its words and its lines.
-pub const HELP: &str = "polygons: overlays of polygons
+pub const HELP: &str = "polygons: overlays of polygons, and their relations
 
 usage: polygons rule=NAME [WORD ..] < INPUT > OUTPUT
+       polygons relate [WORD ..] < INPUT > OUTPUT
 
 The input has a contour on each line:
   S X Y X Y ..     a contour of the subject
@@ -18,7 +19,9 @@ Under format=wkt each line is S or C and a geometry, whose rings run in any dire
   S POLYGON ((0 0, 4 0, 4 4, 0 4, 0 0))
   C MULTIPOLYGON (((2 2, 6 2, 6 6, 2 6, 2 2)))
 
-The output has a line `contour X Y X Y ..` for each contour, with the result on its left.
+The output has a line `contour X Y X Y ..` for each contour, with the result on its left. With relate it is a line of
+nine letters, T where parts of the shapes meet, and else F: the interior, the boundary and the exterior of the
+subject, each with those of the clip. Nothing is rounded then.
 
   rule=NAME        subject, clip, intersect, union, difference, inverse-difference, xor, or table:0 to table:15
   also=NAME        the overlay by another rule with a name too; a line `rule NAME` comes before the contours of each
@@ -31,6 +34,7 @@ The output has a line `contour X Y X Y ..` for each contour, with the result on 
   engine=NAME      i32 (unless another is named), or i16 with coordinates up to 16383
   strategy=NAME    auto (unless another is named), list, tree or frag
   precision=NAME   high (unless another is named), absolute, medium-high, medium, medium-low or low, for pairwise
+  relate           the relation of the shapes, and no overlay: only contours, format, fill and engine go with it
   help, --help     this text
 
 The exit status is 0, or 2 for a wrong word, 3 for a wrong line, 4 where memory or a count runs out, and 5 where the

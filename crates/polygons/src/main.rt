@@ -5,6 +5,7 @@ mod contour_lines;
 mod contour_output;
 mod explain;
 mod help;
+mod relation_output;
 mod run;
 mod wkt_lines;
 mod wkt_output;

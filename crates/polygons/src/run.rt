@@ -5,11 +5,13 @@ ghost use Rattle.overlay_base.specs.declared.segm.fault.Fault.TheVariants.{Memor
 ghost use Rattle.overlay_text.specs.declared.stop.Stop.{Stop};
 ghost use Rattle.overlay_text.specs.Words.{setting};
 ghost use Rattle.overlay_text.specs.declared.settings.Settings.{Settings};
-ghost use Rattle.polygons.specs.Run.{IsNotForArrange, Set, is_among, is_flag, without_flags, rounding_by, has_others, is_mixed, contour_shape_among, others_among, rules_by, adds_rule, IsOverlayText, IsRulesText, IsShapesText, IsWktText, IsContourAnswer, IsWktAnswer, IsRuleAnswer, IsPolygonsAnswer, polygons_behavior};
+ghost use Rattle.polygons.specs.RelationText.{IsGivenRelation};
+ghost use Rattle.polygons.specs.Run.{IsNotForArrange, Set, is_among, is_flag, without_flags, rounding_by, has_others, is_mixed, sets_rule, is_of_overlay, have_overlay_word, contour_shape_among, others_among, rules_by, adds_rule, IsOverlayText, IsRulesText, IsShapesText, IsWktText, IsContourAnswer, IsWktAnswer, IsRuleAnswer, IsOverlayAnswer, IsRelationAnswer, IsPolygonsAnswer, polygons_behavior};
 
 use crate::contour_lines::read_contours;
 use crate::contour_output::{write_contours, write_overlays, write_report, write_shapes};
 use crate::explain::{Reading, explain_line, explain_words, no_rule};
+use crate::relation_output::relation_text;
 use crate::wkt_lines::read_wkt;
 use crate::wkt_output::write_multipolygon;
 use overlay_base::overlay_core::overlay_rule::OverlayRule;
@@ -33,6 +35,8 @@ pub struct Choices {
     pub is_pairwise: bool,
     /// Whether the input and the output are WKT.
     pub is_wkt: bool,
+    /// Whether the output is the relation of both shapes, and not an overlay.
+    pub is_relation: bool,
     /// The shape of the contours on lines of an output.
     pub contour_shape: ShapeType,
     /// Of each rule in `OTHER_RULES` whether its overlay is written too.
@@ -106,7 +110,7 @@ impl Program for PolygonsProgram {
     ghost behavior = { polygons_behavior };
 
     fn usage() -> &'static str {
-        "usage: polygons rule=NAME [also=NAME ..] [shapes] [report] [pairwise] [contours=clip] [format=wkt] [fill|engine|precision|strategy=VALUE ..]"
+        "usage: polygons rule=NAME [also=NAME ..] [shapes] [report] [pairwise] [contours=clip] [format=wkt] [fill|engine|precision|strategy=VALUE ..], or polygons relate [contours=clip] [format=wkt] [fill|engine=VALUE ..]"
     }
 
     fn read_words(words: &[String]) -> Result<Choices, Stop> {
@@ -116,11 +120,15 @@ impl Program for PolygonsProgram {
             has_report: is_among(words, "report"),
             is_pairwise: is_among(words, "pairwise"),
             is_wkt: is_among(words, "format=wkt"),
+            is_relation: is_among(words, "relate"),
             contour_shape: contour_shape(words),
             others: other_rules(words),
             settings,
         };
         if choices.is_mixed() {
+            return Err(Stop::Usage);
+        }
+        if choices.is_relation && have_overlay_word(words) {
             return Err(Stop::Usage);
         }
         Ok(choices)
@@ -205,6 +213,7 @@ pub fn is_flag(word: &str) -> bool
         || word == "pairwise"
         || word == "format=wkt"
         || word == "contours=clip"
+        || word == "relate"
         || adds_rule(word)
 }
 
@@ -219,6 +228,32 @@ pub fn adds_rule(word: &str) -> bool
         || word == "also=difference"
         || word == "also=inverse-difference"
         || word == "also=xor"
+}
+
+/// Whether a word chooses something of an overlay: what its output is, how crossings are rounded, or a rule.
+pub fn is_of_overlay(word: &str) -> bool
+    ensures { result ≡ is_of_overlay word.now }
+{
+    word == "shapes" || word == "report" || word == "pairwise" || adds_rule(word) || sets_rule(word)
+}
+
+/// Whether a word sets the rule.
+fn sets_rule(word: &str) -> bool
+    ensures { result ≡ sets_rule word.now }
+{
+    word.starts_with("rule=")
+}
+
+/// Whether one of the words does so.
+fn have_overlay_word(words: &[String]) -> bool
+    ensures { result ≡ have_overlay_word (map string_bytes words.now) }
+{
+    for word in words {
+        if is_of_overlay(word.as_str()) {
+            return true;
+        }
+    }
+    false
 }
 
 /// The settings that the words choose, but for the flags among them. None of them may set the limit, the radius or
@@ -254,12 +289,72 @@ pub fn is_for_arrange(word: &str) -> bool
     )
 }
 
-/// The text of the overlay of the contours that the input writes.
+/// The text of the relation or of the overlay of the contours that the input writes.
 fn answer_with<I: OverlayInt>(alloc: Global, choices: Choices, bytes: &[u8]) -> Result<String, Stop>
     ensures text { IfOk result (λ text. IsPolygonsAnswer (I.whole I.MIN_COORD) (I.whole I.MAX_COORD) I.BITS
         choices bytes.now (Ok (string_bytes text))) }
     ensures stop { IfErr result (λ stop. (stop ≡ Stop.Refused Memory)
         ⊎ IsPolygonsAnswer (I.whole I.MIN_COORD) (I.whole I.MAX_COORD) I.BITS choices bytes.now (Err stop)) }
+{
+    if choices.is_relation {
+        relation_of::<I>(alloc, choices, bytes)
+    } else {
+        overlay_of::<I>(alloc, choices, bytes)
+    }
+}
+
+/// The text of the relation of the contours that the input writes.
+fn relation_of<I: OverlayInt>(alloc: Global, choices: Choices, bytes: &[u8]) -> Result<String, Stop>
+    ensures text { IfOk result (λ text. IsRelationAnswer (I.whole I.MIN_COORD) (I.whole I.MAX_COORD)
+        choices bytes.now (Ok (string_bytes text))) }
+    ensures stop { IfErr result (λ stop. (stop ≡ Stop.Refused Memory)
+        ⊎ IsRelationAnswer (I.whole I.MIN_COORD) (I.whole I.MAX_COORD) choices bytes.now (Err stop)) }
+{
+    if choices.is_wkt {
+        wkt_relation::<I>(alloc, choices, bytes)
+    } else {
+        contours_relation::<I>(alloc, choices, bytes)
+    }
+}
+
+/// The same, of lines of contours.
+fn contours_relation<I: OverlayInt>(
+    alloc: Global,
+    choices: Choices,
+    bytes: &[u8],
+) -> Result<String, Stop>
+    ensures text { IfOk result (λ text. IsContourAnswer choices.contour_shape (I.whole I.MIN_COORD) (I.whole I.MAX_COORD)
+        (IsGivenRelation choices.settings.fill_rule) bytes.now (Ok (string_bytes text))) }
+    ensures stop { IfErr result (λ stop. (stop ≡ Stop.Refused Memory)
+        ⊎ IsContourAnswer choices.contour_shape (I.whole I.MIN_COORD) (I.whole I.MAX_COORD)
+        (IsGivenRelation choices.settings.fill_rule) bytes.now (Err stop)) }
+{
+    let overlay = read_contours::<I>(alloc, choices.contour_shape, bytes)?;
+    relation_text(alloc, &overlay, choices.settings)
+}
+
+/// The same, of WKT.
+fn wkt_relation<I: OverlayInt>(
+    alloc: Global,
+    choices: Choices,
+    bytes: &[u8],
+) -> Result<String, Stop>
+    ensures text { IfOk result (λ text. IsWktAnswer (I.whole I.MIN_COORD) (I.whole I.MAX_COORD)
+        (IsGivenRelation choices.settings.fill_rule) bytes.now (Ok (string_bytes text))) }
+    ensures stop { IfErr result (λ stop. (stop ≡ Stop.Refused Memory)
+        ⊎ IsWktAnswer (I.whole I.MIN_COORD) (I.whole I.MAX_COORD)
+        (IsGivenRelation choices.settings.fill_rule) bytes.now (Err stop)) }
+{
+    let overlay = read_wkt::<I>(alloc, bytes)?;
+    relation_text(alloc, &overlay, choices.settings)
+}
+
+/// The text of the overlay of the contours that the input writes, by the rule that is chosen.
+fn overlay_of<I: OverlayInt>(alloc: Global, choices: Choices, bytes: &[u8]) -> Result<String, Stop>
+    ensures text { IfOk result (λ text. IsOverlayAnswer (I.whole I.MIN_COORD) (I.whole I.MAX_COORD) I.BITS
+        choices bytes.now (Ok (string_bytes text))) }
+    ensures stop { IfErr result (λ stop. (stop ≡ Stop.Refused Memory)
+        ⊎ IsOverlayAnswer (I.whole I.MIN_COORD) (I.whole I.MAX_COORD) I.BITS choices bytes.now (Err stop)) }
 {
     let rule = choices.settings.rule.ok_or(Stop::NoRule)?;
     answer_under::<I>(alloc, choices, rule, bytes)

@@ -1,62 +1,19 @@
 //! The race over our package: the words of a command line, and the line that it prints, are those of `../cpp/race.h`; a
 //! last word `pairwise` chooses that rounding. Each run makes an `Overlay`, adds the contours, and overlays them.
 
-use fadrinzo::{Error, FillRule, IntContour, IntPoint, Overlay, OverlayRule, Rounding};
+mod input;
+
+use fadrinzo::{Error, FillRule, IntContour, IntPoint, Overlay, Rounding};
+use input::{cpu, most_memory, read, rule, twice_area};
 use std::time::Instant;
-
-#[repr(C)]
-struct Timespec {
-    seconds: i64,
-    nanoseconds: i64,
-}
-
-extern "C" {
-    fn clock_gettime(clock: i32, time: *mut Timespec) -> i32;
-}
-
-/// The processor's milliseconds of this thread.
-fn cpu() -> f64 {
-    let mut time = Timespec { seconds: 0, nanoseconds: 0 };
-    // SAFETY: `time` is a `struct timespec` of 64-bit Linux, and 3 is its CLOCK_THREAD_CPUTIME_ID
-    unsafe { clock_gettime(3, &mut time) };
-    time.seconds as f64 * 1e3 + time.nanoseconds as f64 / 1e6
-}
-
-/// The most memory of this process so far, in KiB.
-fn most_memory() -> String {
-    let text = std::fs::read_to_string("/proc/self/status").unwrap_or_default();
-    let most = text.lines().find_map(|line| line.strip_prefix("VmHWM:"));
-    most.map_or("0".to_string(), |number| number.trim_end_matches("kB").trim().to_string())
-}
-
-/// The contours of the subject and of the clip.
-fn read(path: &str) -> [Vec<IntContour>; 2] {
-    let mut shapes = [Vec::new(), Vec::new()];
-    for line in std::fs::read_to_string(path).expect("a file").lines() {
-        let (shape, numbers) = line.split_at(1);
-        let numbers: Vec<i32> = numbers.split_ascii_whitespace().map(|it| it.parse().expect("a number")).collect();
-        shapes[usize::from(shape == "C")].push(numbers.chunks(2).map(|it| IntPoint::new(it[0], it[1])).collect());
-    }
-    shapes
-}
-
-fn twice_area(contour: &[IntPoint]) -> i128 {
-    let next = contour.iter().cycle().skip(1);
-    contour.iter().zip(next).map(|(a, b)| a.x as i128 * b.y as i128 - a.y as i128 * b.x as i128).sum()
-}
-
-fn rule(word: &str) -> OverlayRule {
-    match word {
-        "union" => OverlayRule::Union,
-        "intersect" => OverlayRule::Intersect,
-        "difference" => OverlayRule::Difference,
-        _ => OverlayRule::Xor,
-    }
-}
 
 fn length(contour: &[IntPoint]) -> f64 {
     let next = contour.iter().cycle().skip(1);
-    contour.iter().zip(next).map(|(a, b)| (b.x as f64 - a.x as f64).hypot(b.y as f64 - a.y as f64)).sum()
+    contour
+        .iter()
+        .zip(next)
+        .map(|(a, b)| (b.x as f64 - a.x as f64).hypot(b.y as f64 - a.y as f64))
+        .sum()
 }
 
 /// The result of some runs, and the least milliseconds of one: the processor's, and those on the wall.
@@ -91,10 +48,16 @@ fn main() {
     let [subject, clip] = read(&words[2]);
     let runs = words[3].parse().expect("a number of runs");
     let seconds = words[4].parse().expect("a number of seconds");
-    let rounding = if words.len() > 5 { Rounding::Pairwise } else { Rounding::HotPixels };
+    let rounding = if words.len() > 5 {
+        Rounding::Pairwise
+    } else {
+        Rounding::HotPixels
+    };
     let before = most_memory();
     let (contours, cpu, wall) = measure(runs, seconds, || {
-        Overlay::with_contours(&subject, &clip)?.with_rounding(rounding).overlay(rule, FillRule::NonZero)
+        Overlay::with_contours(&subject, &clip)?
+            .with_rounding(rounding)
+            .overlay(rule, FillRule::NonZero)
     });
     let after = most_memory();
     let (count, points) = (contours.len(), contours.iter().map(Vec::len).sum::<usize>());

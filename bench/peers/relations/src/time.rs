@@ -2,7 +2,7 @@
 
 use crate::geos::Geos;
 use crate::pairs::Random;
-use fadrinzo::{FillRule, IntContour, IntPoint, Overlay};
+use fadrinzo::{FillRule, IntContour, IntPoint, Overlay, Regions};
 use std::f64::consts::TAU;
 use std::time::Instant;
 
@@ -80,24 +80,31 @@ fn cases(edges: u32) -> Vec<(&'static str, [Vec<IntContour>; 2])> {
     cases
 }
 
-/// Prints a table of milliseconds. Returns whether all relations agree with those of GEOS.
+/// Prints a table of milliseconds: of the matrix of two polygons, and of relations of two that are prepared. Returns whether all
+/// relations agree with those of GEOS.
 pub fn print(edges: u32) -> bool {
     let geos = Geos::new();
     let rule = FillRule::EvenOdd;
     let mut agree = true;
-    println!(
-        "| {edges} edges | meet | covers | touches | matrix | GEOS matrix | prepare | intersects | covers | touches |"
-    );
-    println!("|---|---|---|---|---|---|---|---|---|---|");
+    println!("| {edges} edges | matrix | GEOS | prepared: meet | covers | touches | matrix | prepare both | GEOS prepared: intersects | covers | touches | prepare one |");
+    println!("|---|---|---|---|---|---|---|---|---|---|---|---|");
     for (name, [one, other]) in cases(edges) {
         let polygons = [&one, &other].map(|it| geos.valid_polygon(it).expect("a valid polygon"));
-        let ours = || Overlay::with_contours(&one, &other).expect("points in range");
-        let (meet, meeting) = least(|| ours().interiors_meet(rule).expect("exact"));
-        let (covers, covering) = least(|| ours().covers(rule).expect("exact"));
-        let (touch, touching) = least(|| ours().touches(rule).expect("exact"));
-        let (relate, matrix) = least(|| ours().relate(rule).expect("exact"));
+        let whole = || Overlay::with_contours(&one, &other).expect("points in range").relate(rule).expect("exact");
+        let (relate, matrix) = least(whole);
         let (geos_relate, text) = least(|| geos.relate(polygons[0], polygons[1]));
-        let (prepare, prepared) = least(|| {
+        let (prepare, mut regions) = least(|| {
+            let mut regions = Regions::new().expect("memory");
+            for contours in [&one, &other] {
+                regions.push(contours, rule).expect("exact");
+            }
+            regions
+        });
+        let (meet, meeting) = least(|| regions.interiors_meet(0, 1).expect("small counts"));
+        let (covers, covering) = least(|| regions.covers(0, 1).expect("small counts"));
+        let (touch, touching) = least(|| regions.touches(0, 1).expect("small counts"));
+        let (by_regions, same_matrix) = least(|| regions.relate(0, 1).expect("small counts"));
+        let (geos_prepare, prepared) = least(|| {
             let prepared = geos.prepare(polygons[0]);
             geos.intersects(prepared, polygons[1]);
             prepared
@@ -105,11 +112,11 @@ pub fn print(edges: u32) -> bool {
         let (intersects, _) = least(|| geos.intersects(prepared, polygons[1]));
         let (geos_covers, is_covered) = least(|| geos.covers(prepared, polygons[1]));
         let (geos_touch, do_touch) = least(|| geos.touches(prepared, polygons[1]));
-        agree &= matrix.to_string() == text.replace(['0', '1', '2'], "T");
+        agree &= matrix.to_string() == text.replace(['0', '1', '2'], "T") && matrix == same_matrix;
         agree &= meeting == !text.starts_with('F') && covering == is_covered && touching == do_touch;
         println!(
-            "| {name} ({text}) | {meet:.2} | {covers:.2} | {touch:.2} | {relate:.2} | {geos_relate:.2} | {prepare:.2} | \
-             {intersects:.3} | {geos_covers:.3} | {geos_touch:.3} |"
+            "| {name} ({text}) | {relate:.2} | {geos_relate:.2} | {meet:.3} | {covers:.3} | {touch:.3} | {by_regions:.3} | {prepare:.2} | \
+             {intersects:.3} | {geos_covers:.3} | {geos_touch:.3} | {geos_prepare:.2} |"
         );
     }
     agree

@@ -27,6 +27,7 @@ use Rattle.overlay_contours.specs.declared.rounding.Rounding.{Rounding}
 use Rattle.overlay_contours.specs.declared.rounding.Rounding.TheVariants.{HotPixels}
 use Rattle.overlay_contours.proofs.laws.Splittings.{left_is_one}
 use Rattle.overlay_relations.specs.Boundaries.{has_inexact_crossing, IsBoundaryOf}
+use Rattle.overlay_relations.specs.Crossings.{HaveCrossingEdges}
 use Rattle.overlay_relations.specs.Contacts.{SharePoint, AreDisjoint, Touch}
 use Rattle.overlay_relations.specs.ContactLaws.{HaveCommonPoint}
 use Rattle.overlay_relations.specs.Relations.{is_in, HoldsSomewhere, InteriorsMeet}
@@ -35,7 +36,8 @@ use Rattle.overlay_relations.specs.declared.contacts.Contact.TheVariants.{Apart,
 use Rattle.overlay_relations.specs.steps.ContactOutcomes.{IsContact, IsBoundaryContact}
 use Rattle.overlay_relations.proofs.laws.Closeness.{close_itself}
 use Rattle.overlay_relations.proofs.laws.Boundaries.{far_left, far_right, far_alone}
-use Rattle.overlay_relations.proofs.laws.CrossingRegions.{crossing_boundaries_meet}
+use Rattle.overlay_relations.proofs.laws.CrossingEdges.{crossing_boundaries_meet}
+use Rattle.overlay_relations.proofs.laws.CrossingParts.{inexact_boundaries_cross}
 use Rattle.overlay_relations.proofs.laws.ExactRegions.{exact_boundaries_decide}
 use Rattle.overlay_relations.proofs.laws.SharedPoints.{common_points_decide}
 
@@ -59,8 +61,12 @@ module _ (subject_rule clip_rule : FillRule) (subject clip : List (List Point)) 
 
 -- ---- boundaries
 
-pub meet_at_crossing : (first second : List (List Point)) → IsTrue (has_inexact_crossing first second) → IsBoundaryContact first second Meeting
+pub meet_at_crossing : (first second : List (List Point)) → HaveCrossingEdges first second → IsBoundaryContact first second Meeting
 meet_at_crossing first second h subject_rule clip_rule subject clip a b = crossing_boundaries_meet subject_rule clip_rule subject clip first second a b h true true
+
+-- so do boundaries that cross at a point that is not whole
+pub meet_at_inexact : (first second : List (List Point)) → IsTrue (has_inexact_crossing first second) → IsBoundaryContact first second Meeting
+meet_at_inexact first second h subject_rule clip_rule subject clip a b = meet_at_crossing first second (inexact_boundaries_cross subject_rule clip_rule subject clip first second a b h) subject_rule clip_rule subject clip a b
 
 module _ (first second : List (List Point)) (segments : List WholeSegment) (passes halves : ℕ) (arranged : IsArrangement by_snapping (overlay_segments first second) segments passes halves) where
   -- the edges of what a rule makes of an arrangement are pairs of it

@@ -12,6 +12,7 @@ use Rattle.overlay_geometry.proofs.laws.geometry.Polynomials.{as_D, diffs, D-eq}
 use Rattle.overlay_geometry.proofs.laws.geometry.Points.{Before, UpTo-Before, same_pair_by_eq, not_same_pair}
 use Rattle.overlay_geometry.proofs.laws.integers.Tests.{by_sign}
 use Rattle.overlay_geometry.proofs.laws.lists.Lists.{Has, list_all-at}
+use Rattle.overlay_geometry.proofs.laws.lists.Elements.{Contains-from_Has, Has-from_Contains}
 use Rattle.overlay_base.specs.Join.{join}
 use Rattle.overlay_base.specs.Places.{RationalPoint, winding_below}
 use Rattle.overlay_base.specs.Rays.{goes_through}
@@ -34,6 +35,8 @@ use Rattle.overlay_relations.specs.Contacts.{IsCloser, Borders, IsOnBoundary}
 use Rattle.overlay_relations.specs.Matrix.{IsAt, PartsMeet}
 use Rattle.overlay_relations.specs.declared.matrix.Part.{Part}
 use Rattle.overlay_relations.specs.declared.matrix.Part.TheVariants.{Interior, Boundary, Exterior}
+use Rattle.overlay_relations.specs.Crossings.{HaveCrossingEdges}
+use Rattle.overlay_relations.specs.Laws.{InexactBoundariesCross}
 use Rattle.overlay_relations.specs.MatrixLaws.{CrossingBoundariesMeetAll}
 use Rattle.overlay_relations.specs.Relations.{is_in}
 use Rattle.overlay_relations.proofs.laws.InsidePlaces.{enlarged, tops, IsInside, inside_both, off_others}
@@ -41,7 +44,8 @@ use Rattle.overlay_relations.proofs.laws.NearPlaces.{near, turn_by, at_bottom, f
 use Rattle.overlay_relations.proofs.laws.NearUprights.{near_top, near_bottom, off_passes, passes_by_turn}
 use Rattle.overlay_relations.proofs.laws.CrossingPlaces.{above_all, crossing_some, IsOffLines}
 use Rattle.overlay_relations.proofs.laws.Boundaries.{arc, arranged, tells, part, sides_differ, shape_winds, edges_ordered, far_alone, around_shape, contour_pairs, truth_same}
-use Rattle.overlay_relations.proofs.laws.CrossingRegions.{in_shapes, crossing_of, crossing_boundaries_meet}
+use Rattle.overlay_relations.proofs.laws.CrossingRegions.{in_shapes, crossing_of}
+use Rattle.overlay_relations.proofs.laws.CrossingEdges.{crossing_boundaries_meet}
 use Rattle.overlay_relations.proofs.laws.Closeness.{some_product}
 use Rattle.overlay_relations.proofs.laws.SteadyWindings.{through_from_order}
 use Rattle.overlay_relations.proofs.laws.SharedPoints.{edge_segment, edge_borders, steady_contours, close_inside, clear_near}
@@ -294,44 +298,53 @@ module _ (subject_rule clip_rule : FillRule) (subject clip first second : List (
   edge_of : (shape_type : ShapeType) (region : List (List Point)) (s : Pair) → Has (pairs (join (contour_segments shape_type region))) s → Has (edges region) s
   edge_of shape_type region s m = subst (λ (l : List Pair). Has l s) (contour_pairs shape_type region) (In-join (contour_segments shape_type region) s m)
 
-  record HasCrossingEdges : Type 0 where
-    s : Pair
-    t : Pair
-    of_s : Has (edges first) s
-    of_t : Has (edges second) t
-    cross : IsTrue (do_cross s t)
-
   apart_in : (region : List (List Point)) → IsTrue (list_all (λ s. list_all (λ t. are_apart s t) (edges region)) (edges region)) → (s t : Pair) → Has (edges region) s → Has (edges region) t → IsTrue (do_cross s t) → ⊥
   apart_in region apart s t m k c = both_ways (do_cross s t) (are_apart_parts s t (list_all-at (λ t. are_apart s t) (edges region) t (list_all-at (λ s. list_all (λ t. are_apart s t) (edges region)) (edges region) s apart m) k)).0 c
 
-  crossing_edges : IsTrue (has_inexact_crossing first second) → HasCrossingEdges
+  crossing_pair : (s t : Pair) → Has (edges first) s → Has (edges second) t → IsTrue (do_cross s t) → HaveCrossingEdges first second
+  crossing_pair s t m k c = (s, t, Contains-from_Has (edges first) s m, Contains-from_Has (edges second) t k, c)
+
+  crossing_edges : IsTrue (has_inexact_crossing first second) → HaveCrossingEdges first second
   crossing_edges h =
       let c = crossing_of (join (overlay_segments first second)) h in
       elim (in_shapes first second c.s c.is_first) [
         | inl i ↦ elim (in_shapes first second c.t c.is_second) [
           | inl j ↦ absurd (apart_in first a.apart c.s c.t (edge_of Subject first c.s i) (edge_of Subject first c.t j) c.cross)
-          | inr j ↦ record { s = c.s; t = c.t; of_s = edge_of Subject first c.s i; of_t = edge_of Clip second c.t j; cross = c.cross }
+          | inr j ↦ crossing_pair c.s c.t (edge_of Subject first c.s i) (edge_of Clip second c.t j) c.cross
         ]
         | inr i ↦ elim (in_shapes first second c.t c.is_second) [
-          | inl j ↦ record { s = c.t; t = c.s; of_s = edge_of Subject first c.t j; of_t = edge_of Clip second c.s i; cross = sym (do_cross_back c.s c.t) ∙ c.cross }
+          | inl j ↦ crossing_pair c.t c.s (edge_of Subject first c.t j) (edge_of Clip second c.s i) (sym (do_cross_back c.s c.t) ∙ c.cross)
           | inr j ↦ absurd (apart_in second b.apart c.s c.t (edge_of Clip second c.s i) (edge_of Clip second c.t j) c.cross)
         ]
       ]
 
-  module _ (h : IsTrue (has_inexact_crossing first second)) where
+  module _ (h : HaveCrossingEdges first second) where
+    abbrev s : Pair
+    s = h.0
+
+    abbrev t : Pair
+    t = h.1
+
+    of_s : Has (edges first) s
+    of_s = Has-from_Contains (edges first) s h.2
+
+    of_t : Has (edges second) t
+    of_t = Has-from_Contains (edges second) t h.3
+
+    cross : IsTrue (do_cross s t)
+    cross = h.4
+
     both_open : (kind other : Bool) → PartsMeet subject_rule clip_rule subject clip (part_of subject_rule clip_rule subject clip first second a b kind) (part_of subject_rule clip_rule subject clip first second a b other)
     both_open kind other = meet_of_point subject_rule clip_rule subject clip first second a b kind other (crossing_boundaries_meet subject_rule clip_rule subject clip first second a b h kind other)
 
     border_open : (wanted : Bool) → PartsMeet subject_rule clip_rule subject clip Boundary (part_of subject_rule clip_rule subject clip first second a b wanted)
     border_open wanted =
-        let c = crossing_edges h in
-        let p = border_with subject_rule clip_rule subject clip first second of_first (far_subject subject_rule clip_rule subject clip first second a b) of_second c.s c.t c.of_s c.of_t c.cross wanted in
+        let p = border_with subject_rule clip_rule subject clip first second of_first (far_subject subject_rule clip_rule subject clip first second a b) of_second s t of_s of_t cross wanted in
         record { point = p.0; some = p.1; at_subject = p.2; at_clip = p.3 }
 
     open_border : (wanted : Bool) → PartsMeet subject_rule clip_rule subject clip (part_of subject_rule clip_rule subject clip first second a b wanted) Boundary
     open_border wanted =
-        let c = crossing_edges h in
-        let p = border_with clip_rule subject_rule clip subject second first of_second (far_clip subject_rule clip_rule subject clip first second a b) of_first c.t c.s c.of_t c.of_s (sym (do_cross_back c.s c.t) ∙ c.cross) wanted in
+        let p = border_with clip_rule subject_rule clip subject second first of_second (far_clip subject_rule clip_rule subject clip first second a b) of_first t s of_t of_s (sym (do_cross_back s t) ∙ cross) wanted in
         record { point = p.0; some = p.1; at_subject = p.3; at_clip = p.2 }
 
     on_pair : (s : Pair) (x : RationalPoint) → 0 < x.bottom → Before s.a s.b → IsInside s x → goes_through s x ≡ true
@@ -339,15 +352,14 @@ module _ (subject_rule clip_rule : FillRule) (subject clip first second : List (
 
     both_borders : PartsMeet subject_rule clip_rule subject clip Boundary Boundary
     both_borders =
-        let c = crossing_edges h in
-        let os = edges_ordered first c.s c.of_s in
-        let ot = edges_ordered second c.t c.of_t in
-        let x = inside_both c.s c.t os ot c.cross in
+        let os = edges_ordered first s of_s in
+        let ot = edges_ordered second t of_t in
+        let x = inside_both s t os ot cross in
         record {
           point = x.place;
           some = x.some;
-          at_subject = on_boundary subject_rule subject first of_first (far_subject subject_rule clip_rule subject clip first second a b) c.s c.of_s x.place x.some (on_pair c.s x.place x.some os x.first);
-          at_clip = on_boundary clip_rule clip second of_second (far_clip subject_rule clip_rule subject clip first second a b) c.t c.of_t x.place x.some (on_pair c.t x.place x.some ot x.second);
+          at_subject = on_boundary subject_rule subject first of_first (far_subject subject_rule clip_rule subject clip first second a b) s of_s x.place x.some (on_pair s x.place x.some os x.first);
+          at_clip = on_boundary clip_rule clip second of_second (far_clip subject_rule clip_rule subject clip first second a b) t of_t x.place x.some (on_pair t x.place x.some ot x.second);
         }
 
     all_parts : (of_subject of_clip : Part) → PartsMeet subject_rule clip_rule subject clip of_subject of_clip
@@ -360,6 +372,9 @@ module _ (subject_rule clip_rule : FillRule) (subject clip first second : List (
     all_parts Exterior Interior = both_open false true
     all_parts Exterior Boundary = open_border false
     all_parts Exterior Exterior = both_open false false
+
+pub inexact_boundaries_cross : InexactBoundariesCross
+inexact_boundaries_cross subject_rule clip_rule subject clip first second a b h = crossing_edges subject_rule clip_rule subject clip first second a b h
 
 pub crossing_boundaries_meet_all : CrossingBoundariesMeetAll
 crossing_boundaries_meet_all subject_rule clip_rule subject clip first second a b h = all_parts subject_rule clip_rule subject clip first second a b h

@@ -13,21 +13,19 @@ use Rattle.overlay_base.specs.Segments.{WholeSegment, pairs, winding_at}
 use Rattle.overlay_base.specs.Windings.{add, is_not_empty}
 use Rattle.overlay_base.specs.declared.overlay_core.fill_rule.FillRule.{FillRule}
 use Rattle.overlay_base.specs.declared.segm.shape_type.ShapeType.TheVariants.{Subject, Clip}
-use Rattle.overlay_base.proofs.laws.geometry.Apart.{are_apart_parts, do_cross_back}
+use Rattle.overlay_base.proofs.laws.geometry.Apart.{are_apart_parts}
 use Rattle.overlay_base.proofs.laws.joins.Bags.{winding_at-append, is_not_empty-false}
 use Rattle.overlay_base.proofs.laws.joins.Members.{holds-join}
 use Rattle.overlay_intersections.specs.Marks.{cross_inexactly}
 use Rattle.overlay_intersections.specs.Crossing.{is_exact}
 use Rattle.overlay_intersections.specs.PassMarks.{is_rounded}
 use Rattle.overlay_cuts.specs.Places.{IsFar}
-use Rattle.overlay_cuts.proofs.laws.planar.PlanarPasses.{is_planar-each}
 use Rattle.overlay_contours.specs.Contours.{edges}
 use Rattle.overlay_contours.specs.ContourSegments.{contour_segments, overlay_segments}
-use Rattle.overlay_relations.specs.Boundaries.{has_inexact_crossing, IsBoundaryOf}
-use Rattle.overlay_relations.specs.Laws.{CrossingBoundariesMeet}
+use Rattle.overlay_relations.specs.Boundaries.{IsBoundaryOf}
 use Rattle.overlay_relations.specs.Relations.{HasPoint, is_in}
 use Rattle.overlay_relations.proofs.laws.CrossingPlaces.{IsBesideBoth, beside_crossing}
-use Rattle.overlay_relations.proofs.laws.Boundaries.{arc, planar, arranged, IsSide, side_with, far_off_lines, far_left, far_right, edges_ordered, around_shape}
+use Rattle.overlay_relations.proofs.laws.Boundaries.{arc, arranged, IsSide, side_with, far_off_lines, far_left, far_right, edges_ordered, around_shape}
 
 -- ---- which of two joined parts has a pair
 
@@ -76,7 +74,7 @@ module _ (subject_rule clip_rule : FillRule) (subject clip first second : List (
   xs = arc Subject first a.apart (is_in subject_rule subject) (λ p. IsFar 0 p (edges subject)) (around_shape subject_rule subject first a)
 
   abbrev ys : List WholeSegment
-  ys = arc Clip second b.apart (is_in clip_rule clip) (λ p. IsFar 0 p (edges clip)) (around_shape clip_rule clip second b)
+  ys = arc Subject second b.apart (is_in clip_rule clip) (λ p. IsFar 0 p (edges clip)) (around_shape clip_rule clip second b)
 
   abbrev lines : List Pair
   lines = edges subject ++ edges clip
@@ -91,7 +89,7 @@ module _ (subject_rule clip_rule : FillRule) (subject clip first second : List (
 
   module _ (s : WholeSegment) (m : Has xs s) (t : WholeSegment) (k : Has ys t) (c : IsTrue (do_cross s.pair t.pair)) where
     beside : (left_of_s left_of_t : Bool) → IsBesideBoth xs ys s.pair t.pair lines left_of_s left_of_t
-    beside left_of_s left_of_t = beside_crossing xs ys (arranged Subject first a.apart (is_in subject_rule subject) (λ p. IsFar 0 p (edges subject)) (around_shape subject_rule subject first a)) (arranged Clip second b.apart (is_in clip_rule clip) (λ p. IsFar 0 p (edges clip)) (around_shape clip_rule clip second b)) s m t k lines lines_ordered left_of_s left_of_t c
+    beside left_of_s left_of_t = beside_crossing xs ys (arranged Subject first a.apart (is_in subject_rule subject) (λ p. IsFar 0 p (edges subject)) (around_shape subject_rule subject first a)) (arranged Subject second b.apart (is_in clip_rule clip) (λ p. IsFar 0 p (edges clip)) (around_shape clip_rule clip second b)) s m t k lines lines_ordered left_of_s left_of_t c
 
     far_of : (l r : Bool) (q : IsBesideBoth xs ys s.pair t.pair lines l r) → IsFar 0 q.place (edges subject ++ edges clip)
     far_of l r q = far_off_lines lines q.place q.off_lines
@@ -101,10 +99,10 @@ module _ (subject_rule clip_rule : FillRule) (subject clip first second : List (
         let q = beside true true in
         side_with Subject first a.apart (is_in subject_rule subject) (λ p. IsFar 0 p (edges subject)) (around_shape subject_rule subject first a) s m q.place q.some q.first (far_left q.place (edges subject) (edges clip) (far_of true true q)) wanted
 
-    side_of_t : (wanted : Bool) → IsSide Clip second b.apart (is_in clip_rule clip) (λ p. IsFar 0 p (edges clip)) (around_shape clip_rule clip second b) t.pair wanted
+    side_of_t : (wanted : Bool) → IsSide Subject second b.apart (is_in clip_rule clip) (λ p. IsFar 0 p (edges clip)) (around_shape clip_rule clip second b) t.pair wanted
     side_of_t wanted =
         let q = beside true true in
-        side_with Clip second b.apart (is_in clip_rule clip) (λ p. IsFar 0 p (edges clip)) (around_shape clip_rule clip second b) t k q.place q.some q.second (far_right q.place (edges subject) (edges clip) (far_of true true q)) wanted
+        side_with Subject second b.apart (is_in clip_rule clip) (λ p. IsFar 0 p (edges clip)) (around_shape clip_rule clip second b) t k q.place q.some q.second (far_right q.place (edges subject) (edges clip) (far_of true true q)) wanted
 
     point_with : (in_subject in_clip : Bool) → HasPoint subject_rule clip_rule subject clip in_subject in_clip
     point_with in_subject in_clip =
@@ -120,25 +118,8 @@ module _ (subject_rule clip_rule : FillRule) (subject clip first second : List (
           of_clip = for_t.all q.place q.some q.second (far_right q.place (edges subject) (edges clip) far);
         }
 
-  point_of_pairs : (s t : Pair) → Has (pairs xs) s → Has (pairs ys) t → IsTrue (do_cross s t) → (in_subject in_clip : Bool) → HasPoint subject_rule clip_rule subject clip in_subject in_clip
+  pub point_of_pairs : (s t : Pair) → Has (pairs xs) s → Has (pairs ys) t → IsTrue (do_cross s t) → (in_subject in_clip : Bool) → HasPoint subject_rule clip_rule subject clip in_subject in_clip
   point_of_pairs s t m k c in_subject in_clip =
       let one = Has-map_out (λ (u : WholeSegment). u.pair) xs s m in
       let two = Has-map_out (λ (u : WholeSegment). u.pair) ys t k in
       point_with one.0 one.1 two.0 two.1 (subst (λ (r : Pair). IsTrue (do_cross r two.0.pair)) (sym one.2) (subst (λ (r : Pair). IsTrue (do_cross s r)) (sym two.2) c)) in_subject in_clip
-
-  points_there : IsTrue (has_inexact_crossing first second) → (in_subject in_clip : Bool) → HasPoint subject_rule clip_rule subject clip in_subject in_clip
-  points_there h in_subject in_clip =
-      let crossing = crossing_of (join (overlay_segments first second)) h in
-      elim (in_shapes first second crossing.s crossing.is_first) [
-        | inl i ↦ elim (in_shapes first second crossing.t crossing.is_second) [
-          | inl j ↦ absurd (not_in_one xs crossing.s crossing.t (is_planar-each xs (planar Subject first a.apart (is_in subject_rule subject) (λ p. IsFar 0 p (edges subject)) (around_shape subject_rule subject first a)) crossing.s crossing.t i j) crossing.cross)
-          | inr j ↦ point_of_pairs crossing.s crossing.t i j crossing.cross in_subject in_clip
-        ]
-        | inr i ↦ elim (in_shapes first second crossing.t crossing.is_second) [
-          | inl j ↦ point_of_pairs crossing.t crossing.s j i (sym (do_cross_back crossing.s crossing.t) ∙ crossing.cross) in_subject in_clip
-          | inr j ↦ absurd (not_in_one ys crossing.s crossing.t (is_planar-each ys (planar Clip second b.apart (is_in clip_rule clip) (λ p. IsFar 0 p (edges clip)) (around_shape clip_rule clip second b)) crossing.s crossing.t i j) crossing.cross)
-        ]
-      ]
-
-pub crossing_boundaries_meet : CrossingBoundariesMeet
-crossing_boundaries_meet subject_rule clip_rule subject clip first second a b h = points_there subject_rule clip_rule subject clip first second a b h

@@ -1,5 +1,5 @@
 -- Edges in order: what a binary search finds, and whether two lists share one.
-use Rattle.std.proofs.Common.{◌≡◌, ap, sym, subst, ◌∙◌, ℕ, ◌≤◌, Bool, inl, inr, List, [], ◌∷◌, ◌++◌, map, length, get_or, Result, Ok, Err, arith, ⊎_elim, Equal, ◌↔◌}
+use Rattle.std.proofs.Common.{◌≡◌, ap, sym, subst, ◌∙◌, ℕ, ◌<◌, ◌≤◌, Bool, inl, inr, List, [], ◌∷◌, ◌++◌, map, length, get_or, Result, Ok, Err, arith, ⊎_elim, Equal, ◌↔◌}
 use Rattle.std.specs.Prelude.{Contains, IsTrue, is_ok, IsSortedByKey, IsPermutation}
 use Rattle.std.specs.List.Sorted.{IsBinarySearchResult, IsSearchInRange}
 use Rattle.std.proofs.lemmas.Bool.{both_ways, cases_order}
@@ -82,3 +82,11 @@ shared_edges sorted others first second found same o h = (
 -- the ends of the segments of one shape are its edges
 pub sides_are : {X : Type 0} (f : X → WholeSegment) (xs : List X) (contours : List (List Point)) → map f xs ≡ overlay_segments contours [] → map (λ x. (f x).pair) xs ≡ edges contours
 sides_are f xs contours e = sym (map-map (λ (s : WholeSegment). s.pair) f xs) ∙ ap pairs e ∙ pairs_alone contours
+
+-- ---- edges by their places
+
+pub side_at : {X : Type 0} (f : X → WholeSegment) (xs : List X) (i : ℕ) (x : X) → i < length xs → x ≡ get_or xs i x → Contains (pairs (map f xs)) (f x).pair
+side_at f xs i x inside is = Contains-from_Has (pairs (map f xs)) (f x).pair (Has-map (λ (s : WholeSegment). s.pair) (map f xs) (f x) (Has-map f xs x (Has-from_Contains xs x (i, inside, sym is))))
+
+pub below_end : (i end len : ℕ) → i < end → end ≤ len → i < len
+below_end i end len l k = omega (arith, l, k)

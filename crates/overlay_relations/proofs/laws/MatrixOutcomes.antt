@@ -18,6 +18,7 @@ use Rattle.overlay_contours.specs.Polygons.{IsPolygonOverlay}
 use Rattle.overlay_contours.specs.Splittings.{by_snapping, IsArrangement}
 use Rattle.overlay_contours.proofs.laws.Splittings.{left_is_one}
 use Rattle.overlay_relations.specs.Boundaries.{has_inexact_crossing}
+use Rattle.overlay_relations.specs.Crossings.{HaveCrossingEdges}
 use Rattle.overlay_relations.specs.ContactLaws.{HaveCommonPoint}
 use Rattle.overlay_relations.specs.Matrix.{entry}
 use Rattle.overlay_relations.specs.MatrixLaws.{HaveCommonEdge, IsRegionBy, AreRegions}
@@ -25,14 +26,18 @@ use Rattle.overlay_relations.specs.declared.matrix.Part.{Part}
 use Rattle.overlay_relations.specs.declared.matrix.Part.TheVariants.{Interior, Boundary, Exterior}
 use Rattle.overlay_relations.specs.declared.matrix.Relation.{Relation}
 use Rattle.overlay_relations.specs.steps.MatrixOutcomes.{IsBoundaryMatrix}
-use Rattle.overlay_relations.proofs.laws.CrossingParts.{crossing_boundaries_meet_all}
+use Rattle.overlay_relations.proofs.laws.CrossingParts.{crossing_boundaries_meet_all, inexact_boundaries_cross}
 use Rattle.overlay_relations.proofs.laws.Matrices.{matrix_by_regions}
 use Rattle.overlay_relations.proofs.laws.Outcomes.{none_in, some_in}
 
 -- where boundaries cross, all parts meet
-pub matrix_at_crossing : (first second : List (List Point)) (relation : Relation) → ((of_subject of_clip : Part) → entry relation of_subject of_clip ≡ true) → IsTrue (has_inexact_crossing first second) → IsBoundaryMatrix first second relation
+pub matrix_at_crossing : (first second : List (List Point)) (relation : Relation) → ((of_subject of_clip : Part) → entry relation of_subject of_clip ≡ true) → HaveCrossingEdges first second → IsBoundaryMatrix first second relation
 matrix_at_crossing first second relation all h subject_rule clip_rule subject clip a b of_subject of_clip =
     (λ t. crossing_boundaries_meet_all subject_rule clip_rule subject clip first second a b h of_subject of_clip, λ m. all of_subject of_clip)
+
+pub matrix_at_inexact : (first second : List (List Point)) (relation : Relation) → ((of_subject of_clip : Part) → entry relation of_subject of_clip ≡ true) → IsTrue (has_inexact_crossing first second) → IsBoundaryMatrix first second relation
+matrix_at_inexact first second relation all h subject_rule clip_rule subject clip a b =
+    matrix_at_crossing first second relation all (inexact_boundaries_cross subject_rule clip_rule subject clip first second a b h) subject_rule clip_rule subject clip a b
 
 module _ (first second : List (List Point)) (segments : List WholeSegment) (passes halves : ℕ) (arranged : IsArrangement by_snapping (overlay_segments first second) segments passes halves) where
   -- a region by a rule is one of this arrangement

@@ -9,9 +9,10 @@ use Rattle.overlay_base.specs.declared.overlay_core.fill_rule.FillRule.TheVarian
 use Rattle.overlay_base.specs.declared.overlay_core.overlay_rule.OverlayRule.{OverlayRule}
 use Rattle.overlay_base.specs.declared.overlay_core.overlay_rule.OverlayRule.TheVariants.{Intersect, Difference, InverseDifference, Xor}
 use Rattle.overlay_contours.specs.Beyond.{IsOverlayBeyond}
-use Rattle.overlay_relations.specs.Boundaries.{has_inexact_crossing, IsBoundaryOf}
+use Rattle.overlay_relations.specs.Boundaries.{IsBoundaryOf}
+use Rattle.overlay_relations.specs.Crossings.{HaveCrossingEdges}
 use Rattle.overlay_relations.specs.Relations.{HasPoint, HoldsSomewhere, InteriorsMeet, Covers, IsWithin, AreSameRegion, is_in}
-use Rattle.overlay_relations.proofs.laws.CrossingRegions.{crossing_boundaries_meet}
+use Rattle.overlay_relations.proofs.laws.CrossingEdges.{crossing_boundaries_meet}
 use Rattle.overlay_relations.proofs.laws.ExactRegions.{exact_boundaries_decide}
 
 -- ---- whether a rule holds somewhere
@@ -27,7 +28,7 @@ of_point rule subject_rule clip_rule subject clip in_subject in_clip h p = recor
 
 module _ (rule : OverlayRule) (subject_rule clip_rule : FillRule) (subject clip first second : List (List Point)) (a : IsBoundaryOf subject_rule subject first) (b : IsBoundaryOf clip_rule clip second) where
   -- beside a crossing are points of all kinds, so each rule that is true of some kind holds somewhere
-  pub holds_at_crossing : IsTrue (has_inexact_crossing first second) → IsTrue (holds rule true true || holds rule true false || holds rule false true) → HoldsSomewhere rule subject_rule clip_rule subject clip
+  pub holds_at_crossing : HaveCrossingEdges first second → IsTrue (holds rule true true || holds rule true false || holds rule false true) → HoldsSomewhere rule subject_rule clip_rule subject clip
   holds_at_crossing crossing inside = elim (or_cases (holds rule true true || holds rule true false) (holds rule false true) inside) [
     | inl h ↦ elim (or_cases (holds rule true true) (holds rule true false) h) [
       | inl k ↦ of true true k

@@ -15,7 +15,7 @@ pub fn common_point_laws()
 {}
 
 /// Which of the inside, the boundary and the outside of one shape meet which of the other, where their boundaries cross at
-/// integer coordinates alone: six regions of one arrangement decide it. Where they cross at another point, each meets each.
+/// integer coordinates alone: six regions of one arrangement decide it. Where edges of both cross, each meets each.
 pub fn matrix_laws()
     ensures regions { MatrixByRegions }
     ensures crossings { CrossingBoundariesMeetAll }

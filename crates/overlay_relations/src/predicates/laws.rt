@@ -1,10 +1,11 @@
 // The laws of two shapes. Each function has an empty body, and its contract is proved for all whole numbers.
-ghost use Rattle.overlay_relations.specs.Laws.{CrossingBoundariesMeet, ExactBoundariesDecide, ResultsCrossExactly};
+ghost use Rattle.overlay_relations.specs.Laws.{CrossingBoundariesMeet, InexactBoundariesCross, ExactBoundariesDecide, ResultsCrossExactly};
 
-/// Two shapes without inexact crossings: where their boundaries cross at a point without integer coordinates, their interiors
-/// meet, neither covers the other, and some points are in neither.
+/// Two shapes without inexact crossings: where edges of their boundaries cross, their interiors meet, neither covers the other,
+/// and some points are in neither. They cross so wherever an arrangement of both has a crossing without integer coordinates.
 pub fn crossing_laws()
-    ensures { CrossingBoundariesMeet }
+    ensures meet { CrossingBoundariesMeet }
+    ensures cross { InexactBoundariesCross }
 {}
 
 /// Where the overlay of the two boundaries by a rule moves nothing, it is empty exactly if the rule holds at no point that is

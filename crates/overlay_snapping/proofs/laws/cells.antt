@@ -9,3 +9,4 @@ pub mod Users
 pub mod Pushed
 pub mod Recorded
 pub mod InOrder
+pub mod Inner

@@ -43,10 +43,10 @@ pub(crate) struct Closure<I: OverlayInt> {
 
 /// How many times as large as segments cells are where hot points are sought, as a power of two. They are larger where there
 /// are fewer points than segments.
-const DOUBLED_FOR_HOT: u32 = 2;
+const DOUBLED_FOR_HOT: u32 = 3;
 
 /// The same of cells where other points are sought: there are more of these.
-const DOUBLED_FOR_OTHERS: u32 = 1;
+const DOUBLED_FOR_OTHERS: u32 = 2;
 
 /// How many times as many points as segments are recorded, before no more are.
 const RECORDED: usize = 2;

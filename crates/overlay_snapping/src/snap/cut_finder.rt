@@ -1,7 +1,7 @@
 // The points at which snap rounding cuts the segments of a list, found from the marks of a settling pass. This project's
 // own.
 ghost use Rattle.std.specs.Prelude.{◌≡◌, ◌<◌, ◌≤◌, ◌≢◌, ◌++◌, ◌-◌, ◌^◌, IsTrue, IsFalse, true};
-ghost use Rattle.std.specs.Prelude.{All, List, IfOk, OnOk, map, length};
+ghost use Rattle.std.specs.Prelude.{[], All, List, Some, IfOk, OnOk, map, length};
 ghost use Rattle.std.specs.List.{AllWithin, HoldsAt};
 ghost use Rattle.overlay_geometry.specs.Points.{is_ordered};
 ghost use Rattle.overlay_geometry.specs.PointOf.{point_of};
@@ -18,7 +18,7 @@ ghost use Rattle.overlay_snapping.specs.CutsOf.{AreCutsOf, AreMarksAt, AreCutsAt
 ghost use Rattle.overlay_snapping.specs.steps.Batches.{HasCut};
 ghost use Rattle.overlay_snapping.specs.PointFinderOf.{points_of, points_in};
 ghost use Rattle.overlay_snapping.specs.steps.Met.{AddsAllMet};
-ghost use Rattle.overlay_snapping.specs.steps.Recorded.{IsRecorded};
+ghost use Rattle.overlay_snapping.specs.steps.Recorded.{recorded, IsRecorded};
 ghost use Rattle.overlay_snapping.specs.steps.Cutting.{points_on, points_off, points_along};
 
 use crate::snap::cells::CellSize;
@@ -146,6 +146,9 @@ impl<I: OverlayInt> CutFinder<I> {
         ensures known { KnowsHot (segments_of segments.now) self.new }
     {
         let segment = segments[index].x_segment();
+        if is_untouched(index, own, &self.closure.meetings) {
+            return Ok(());
+        }
         collect_along(&segment, own, &mut self.between)?;
         append_hot(
             &segment,
@@ -167,6 +170,14 @@ impl<I: OverlayInt> CutFinder<I> {
         }
         Ok(())
     }
+}
+
+/// Whether a segment has no marks, and is recorded to meet no hot points.
+#[inline(always)]
+fn is_untouched<I: OverlayInt>(index: usize, own: &[LineMark<I>], meetings: &Meetings<I>) -> bool
+    ensures { result ≡ true → (own.now ≡ []) × (recorded meetings.now index ≡ Some []) }
+{
+    own.is_empty() && meetings.has_none(index)
 }
 
 /// How many marks in front have the index.

@@ -1,5 +1,5 @@
 // Which hot points each segment meets between its ends, kept for as many segments as there is room for. This project's own.
-ghost use Rattle.std.specs.Prelude.{◌≡◌, ◌+◌, ◌<◌, ◌≤◌, ◌++◌, ℕ, Some, All, OnOk, IfSome, length};
+ghost use Rattle.std.specs.Prelude.{◌≡◌, ◌+◌, ◌<◌, ◌≤◌, ◌++◌, [], true, ℕ, Some, All, OnOk, IfSome, length};
 ghost use Rattle.overlay_snapping.specs.declared.snap.meetings.Part.{Part};
 
 use overlay_geometry::geom::point::IntPoint;
@@ -66,6 +66,17 @@ impl<I: OverlayInt> Meetings<I> {
         let end = self.points.len();
         self.parts.push(Part { start, end })?;
         Ok(())
+    }
+
+    /// Whether a part is there and has no points.
+    #[inline(always)]
+    pub(crate) fn has_none(&self, index: usize) -> bool
+        ensures { result ≡ true → recorded self.now index ≡ Some [] }
+    {
+        match self.parts.get(index) {
+            Some(part) => part.start == part.end,
+            None => false,
+        }
     }
 
     /// The points of a part, if it is there.

@@ -10,6 +10,7 @@ ghost use Rattle.overlay_geometry.specs.declared.geom.point.IntPoint.{IntPoint};
 ghost use Rattle.overlay_snapping.specs.steps.InOrder.{AreInOrder, AreLeft};
 ghost use Rattle.overlay_snapping.specs.steps.Met.{AddsAllMet};
 
+use crate::snap::inner_box::InnerBox;
 use crate::snap::point_grid::is_met;
 use overlay_geometry::geom::point::IntPoint;
 use overlay_geometry::geom::x_segment::XSegment;
@@ -68,12 +69,13 @@ pub(crate) fn append_met_from<I: OverlayInt>(
     ensures { OnOk result (AddsAllMet (pair_of I.whole segment.now) (map (point_of I.whole) points.now)
         (map (point_of I.whole) met.old.items) (map (point_of I.whole) met.new.items)) }
 {
+    let inner = InnerBox::of(segment);
     for index in first..points.len() {
         let point = points[index];
         if segment.b.x < point.x {
             return Ok(());
         }
-        if is_met(segment, point) {
+        if is_met(segment, &inner, point) {
             met.push(point)?;
         }
     }

@@ -1,19 +1,21 @@
 // Points in the cells of a grid: it finds the points whose pixels a segment meets. This project's own.
-ghost use Rattle.std.specs.Prelude.{◌≡◌, ◌+◌, ◌<◌, ◌≤◌, ◌⊎◌, ◌↔◌, ◌++◌, ◌∷◌, ◌&&◌, [], false, true, int_le, map, length, List, Contains, OnOk, IfOk, IfSome, IsTrue, slice_index_or, slice_set};
+ghost use Rattle.std.specs.Prelude.{◌≡◌, ◌+◌, ◌<◌, ◌≤◌, ◌⊎◌, ◌↔◌, ◌++◌, ◌∷◌, [], false, true, map, length, List, Contains, OnOk, IfOk, IfSome, IsTrue, slice_index_or, slice_set};
 ghost use Rattle.std.specs.List.{list_all};
-ghost use Rattle.overlay_geometry.specs.Points.{Point, is_ordered, is_in_box, is_between};
+ghost use Rattle.overlay_geometry.specs.Points.{Point, is_ordered};
 ghost use Rattle.overlay_geometry.specs.PointOf.{point_of};
 ghost use Rattle.overlay_geometry.specs.PairOf.{pair_of};
 ghost use Rattle.overlay_geometry.specs.Coordinates.{is_point_in_range};
 ghost use Rattle.overlay_geometry.specs.InRange.{IsPointInRange, IsPairInRange};
 ghost use Rattle.overlay_snapping.specs.steps.PointTrees.{column_of};
 ghost use Rattle.overlay_snapping.specs.steps.Cells.{slot_of, slot_at, has_cell, is_among, AreChained};
+ghost use Rattle.overlay_snapping.specs.steps.InnerBoxes.{IsInnerBox};
 ghost use Rattle.overlay_snapping.specs.steps.Met.{is_met, AddsMet, AddsAllMet};
 ghost use Rattle.overlay_snapping.specs.steps.InOrder.{AreInOrder};
 
 use crate::snap::cells::{CellBox, CellSize};
+use crate::snap::inner_box::InnerBox;
 use crate::snap::ordered_points::{append_met_from, first_not_left, list_in_order};
-use crate::snap::pixel::{is_end, is_near_line};
+use crate::snap::pixel::{is_end, is_near_line, meets_pixel};
 use overlay_geometry::geom::point::IntPoint;
 use overlay_geometry::geom::x_segment::XSegment;
 use overlay_geometry::num::OverlayInt;
@@ -252,8 +254,9 @@ impl<I: OverlayInt> PointGrid<I> {
         ensures { OnOk result (AddsMet (pair_of I.whole segment.now) (points_in self.now)
             (λ c. has_cell cells.now self.now.size c ≡ true) (map (point_of I.whole) met.old.items) (map (point_of I.whole) met.new.items)) }
     {
+        let inner = InnerBox::of(segment);
         for row in cells.bottom..cells.top {
-            self.append_met_in_row(segment, row, cells, met)?;
+            self.append_met_in_row(segment, &inner, row, cells, met)?;
         }
         Ok(())
     }
@@ -263,19 +266,20 @@ impl<I: OverlayInt> PointGrid<I> {
     fn append_met_in_row(
         &self,
         segment: &XSegment<I>,
+        inner: &InnerBox,
         row: i64,
         cells: &CellBox,
         met: &mut Vec<IntPoint<I>>,
     ) -> Result<(), AllocError>
         requires uncrowded { self.now.is_crowded ≡ false }
         requires in_range { IsPairInRange I.whole I.MIN_COORD I.MAX_COORD segment.now }
-        requires ordered { IsTrue (is_ordered (pair_of I.whole segment.now)) }
+        requires inner { IsInnerBox (pair_of I.whole segment.now) inner.now }
         ensures { OnOk result (AddsMet (pair_of I.whole segment.now) (points_in self.now)
             (λ c. IsTrue (is_among cells.now.left cells.now.right (column_of self.now.size.width c.x)) × (column_of self.now.size.height c.y ≡ row))
             (map (point_of I.whole) met.old.items) (map (point_of I.whole) met.new.items)) }
     {
         for column in cells.left..cells.right {
-            self.append_met_in_slot(segment, slot_of(self.mask, column, row), met)?;
+            self.append_met_in_slot(segment, inner, slot_of(self.mask, column, row), met)?;
         }
         Ok(())
     }
@@ -285,19 +289,20 @@ impl<I: OverlayInt> PointGrid<I> {
     fn append_met_in_slot(
         &self,
         segment: &XSegment<I>,
+        inner: &InnerBox,
         slot: usize,
         met: &mut Vec<IntPoint<I>>,
     ) -> Result<(), AllocError>
         requires uncrowded { self.now.is_crowded ≡ false }
         requires in_range { IsPairInRange I.whole I.MIN_COORD I.MAX_COORD segment.now }
-        requires ordered { IsTrue (is_ordered (pair_of I.whole segment.now)) }
+        requires inner { IsInnerBox (pair_of I.whole segment.now) inner.now }
         ensures { OnOk result (AddsMet (pair_of I.whole segment.now) (points_in self.now)
             (λ c. slot_at self.now.mask self.now.size c ≡ slot) (map (point_of I.whole) met.old.items) (map (point_of I.whole) met.new.items)) }
     {
         let mut at = self.head(slot) as usize;
         while at > 0 {
             let point = self.points[at - 1];
-            if is_met(segment, point) {
+            if is_met(segment, inner, point) {
                 met.push(point)?;
             }
             at = self.next(at - 1) as usize;
@@ -336,7 +341,7 @@ impl<I: OverlayInt> PointGrid<I> {
             (map (point_of I.whole) met.old.items) (map (point_of I.whole) met.new.items)) }
     {
         for point in &self.points {
-            if is_met(segment, *point) {
+            if is_met_alone(segment, *point) {
                 met.push(*point)?;
             }
         }
@@ -353,40 +358,30 @@ fn set(list: &mut Vec<u32>, place: usize, number: u32)
     }
 }
 
-/// Whether a segment meets the pixel of a point that is no end of it.
+/// Whether a segment meets the pixel of a point that is no end of it, where the first comparison leaves out nearly all points.
 #[inline(always)]
-pub(crate) fn is_met<I: OverlayInt>(segment: &XSegment<I>, point: IntPoint<I>) -> bool
+fn is_met_alone<I: OverlayInt>(segment: &XSegment<I>, point: IntPoint<I>) -> bool
     requires in_range { IsPairInRange I.whole I.MIN_COORD I.MAX_COORD segment.now }
     requires ordered { IsTrue (is_ordered (pair_of I.whole segment.now)) }
     requires point { IsPointInRange I.whole I.MIN_COORD I.MAX_COORD point }
     ensures { result ≡ is_met (pair_of I.whole segment.now) (point_of I.whole point) }
 {
-    is_in_box(segment, point) && !is_end(segment, point) && is_near_line(segment, point)
+    meets_pixel(segment, point) && !is_end(segment, point)
 }
 
-/// Whether a point lies in the box of a segment whose ends are in order.
+/// Whether a segment meets the pixel of a point that is no end of it. Its inner box is given.
 #[inline(always)]
-fn is_in_box<I: OverlayInt>(segment: &XSegment<I>, point: IntPoint<I>) -> bool
-    requires ordered { IsTrue (is_ordered (pair_of I.whole segment.now)) }
-    ensures { result ≡ is_in_box (pair_of I.whole segment.now) (point_of I.whole point) }
+pub(crate) fn is_met<I: OverlayInt>(
+    segment: &XSegment<I>,
+    inner: &InnerBox,
+    point: IntPoint<I>,
+) -> bool
+    requires in_range { IsPairInRange I.whole I.MIN_COORD I.MAX_COORD segment.now }
+    requires inner { IsInnerBox (pair_of I.whole segment.now) inner.now }
+    requires point { IsPointInRange I.whole I.MIN_COORD I.MAX_COORD point }
+    ensures { result ≡ is_met (pair_of I.whole segment.now) (point_of I.whole point) }
 {
-    is_from_to(segment.a.x, segment.b.x, point.x) && is_between(segment.a.y, segment.b.y, point.y)
-}
-
-/// Whether a number lies from one to another.
-#[inline(always)]
-fn is_from_to<I: OverlayInt>(least: I, greatest: I, number: I) -> bool
-    ensures { result ≡ (int_le (I.whole least) (I.whole number) && int_le (I.whole number) (I.whole greatest)) }
-{
-    least <= number && number <= greatest
-}
-
-/// Whether a number lies between two, in either order.
-#[inline(always)]
-fn is_between<I: OverlayInt>(first: I, second: I, number: I) -> bool
-    ensures { result ≡ is_between (I.whole first) (I.whole second) (I.whole number) }
-{
-    (first <= number && number <= second) || (second <= number && number <= first)
+    inner.has(point) && is_near_line(segment, point)
 }
 
 /// The slot of a cell. Cells side by side have slots side by side.

@@ -41,21 +41,20 @@ at_contour : (tile : Rect) (c : List Point) (contours : List (List Point)) (b : 
 at_contour tile c contours true e = rw e refl
 at_contour tile c contours false e = rw e refl
 
-pub one_contour : {X : Type 0} (tile : Rect) (h : X → List Point) (xs : List X) (i : ℕ) (x : X) (found more all : List (List Point)) → i < length xs → x ≡ get_or xs i x → is_beside tile (h x) ≡ false → more ≡ found ++ thinned tile (clipped tile (h x)) ∷ [] →
-    found ++ in_tile tile (map h (drop i xs)) ≡ all → more ++ in_tile tile (map h (drop (i + 1) xs)) ≡ all
-one_contour tile h xs i x found more all l is off pushed e =
-    let next : i + 1 ≡ suc i = omega arith in
-    rw next (ap (λ (k : List (List Point)). k ++ in_tile tile (map h (drop (suc i) xs))) pushed
-    ∙ append_assoc found (thinned tile (clipped tile (h x)) ∷ []) _
-    ∙ sym (ap (λ (k : List (List Point)). found ++ k) (at_contour tile (h x) (map h (drop (suc i) xs)) false off))
-    ∙ sym (ap (λ (k : List _). found ++ in_tile tile (map h k)) (drop_at xs i x l is))
-    ∙ e)
+in_two : (tile : Rect) (c : List Point) (contours : List (List Point)) → in_tile tile (c ∷ contours) ≡ in_tile tile (c ∷ []) ++ in_tile tile contours
+in_two tile c contours = by (is_beside tile c) refl
+  where
+    by : (b : Bool) → is_beside tile c ≡ b → in_tile tile (c ∷ contours) ≡ in_tile tile (c ∷ []) ++ in_tile tile contours
+    by true e = at_contour tile c contours true e ∙ sym (ap (λ (k : List (List Point)). k ++ in_tile tile contours) (at_contour tile c [] true e))
+    by false e = at_contour tile c contours false e ∙ sym (ap (λ (k : List (List Point)). k ++ in_tile tile contours) (at_contour tile c [] false e))
 
-pub no_contour_more : {X : Type 0} (tile : Rect) (h : X → List Point) (xs : List X) (i : ℕ) (x : X) (found all : List (List Point)) → i < length xs → x ≡ get_or xs i x → is_beside tile (h x) ≡ true →
-    found ++ in_tile tile (map h (drop i xs)) ≡ all → found ++ in_tile tile (map h (drop (i + 1) xs)) ≡ all
-no_contour_more tile h xs i x found all l is on e =
+pub one_contour : {X : Type 0} (tile : Rect) (h : X → List Point) (xs : List X) (i : ℕ) (x : X) (found part more all : List (List Point)) → i < length xs → x ≡ get_or xs i x → part ≡ in_tile tile (h x ∷ []) → more ≡ found ++ part →
+    found ++ in_tile tile (map h (drop i xs)) ≡ all → more ++ in_tile tile (map h (drop (i + 1) xs)) ≡ all
+one_contour tile h xs i x found part more all l is of pushed e =
     let next : i + 1 ≡ suc i = omega arith in
-    rw next (sym (ap (λ (k : List (List Point)). found ++ k) (at_contour tile (h x) (map h (drop (suc i) xs)) true on))
+    rw next (ap (λ (k : List (List Point)). k ++ in_tile tile (map h (drop (suc i) xs))) (pushed ∙ ap (λ (k : List (List Point)). found ++ k) of)
+    ∙ append_assoc found (in_tile tile (h x ∷ [])) _
+    ∙ sym (ap (λ (k : List (List Point)). found ++ k) (in_two tile (h x) (map h (drop (suc i) xs))))
     ∙ sym (ap (λ (k : List _). found ++ in_tile tile (map h k)) (drop_at xs i x l is))
     ∙ e)
 

@@ -1,4 +1,5 @@
 // The laws of tiles. Each function has an empty body, and its contract is proved for all whole numbers.
+ghost use Rattle.overlay_tiles.specs.TileOverlays.{OverlaysInTileAreParts};
 ghost use Rattle.overlay_tiles.specs.Laws.{StepsWindAlike, ContoursWindAlike, ClippedLieInTile, ClippedLieNear, OthersCountNothing, SnapKeepsWindingOffAxes, TilesWindAlike};
 
 /// Contours that are cut and clamped to a tile wind around each point of the tile as before, if it is farther than half a
@@ -24,4 +25,11 @@ pub fn axis_laws()
 /// that runs along no axis.
 pub fn tile_laws()
     ensures { TilesWindAlike }
+{}
+
+/// Whatever overlays what a tile has of a subject's contours and a clip's, by snap rounding, returns the part of their overlay
+/// that belongs to the tile. So parts may be made with any of the calls for contours, as in shapes, or by many rules over one
+/// arrangement.
+pub fn part_laws()
+    ensures { OverlaysInTileAreParts }
 {}

@@ -2,24 +2,24 @@ use Rattle.std.proofs.Common.{◌≡◌, ap, sym, ◌∙◌, ◌++◌, List}
 use Rattle.overlay_geometry.specs.Points.{Point}
 use Rattle.overlay_base.specs.SegmentOf.{segments_of}
 use Rattle.overlay_contours.specs.ArrangementsOf.{arrangement_of, passes_of, reach_of}
-use Rattle.overlay_contours.specs.ContoursOf.{contours_of}
 use Rattle.overlay_contours.specs.Kept.{subject_of, clip_of, rounding_of}
 use Rattle.overlay_contours.specs.declared.fault.ContourFault.TheVariants.{Refused as RefusedContours}
 use Rattle.overlay_contours.proofs.laws.Overlays.{refused_as}
+use Rattle.overlay_relations.specs.BoundaryOf.{contours_in}
 use Rattle.overlay_relations.specs.Refusals.{IsOverlayRefusal}
 use Rattle.overlay_relations.proofs.laws.ContactOutcomes.{arranged_of_kept}
-use Rattle.overlay_relations.proofs.laws.MatrixOutcomes.{matrix_at_crossing}
+use Rattle.overlay_relations.proofs.laws.MatrixOutcomes.{matrix_at_crossing, matrix_at_inexact}
 use Rattle.overlay_relations.proofs.laws.Refusals.{inexact_where_some, overlay_refuses}
 use Rattle.overlay_relations.proofs.matrix.boundary_relation.Goals as goal
 
 pub returns-in_err-arrangement-clause-refused : goal.returns-in_err-arrangement-clause-refused
 returns-in_err-arrangement-clause-refused g c =
     let whole = g.I.OverlayInt.whole in
-    let first : List (List Point) = contours_of whole c.args.first.now in
-    let second : List (List Point) = contours_of whole c.args.second.now in
+    let first : List (List Point) = contours_in c.args.first.now in
+    let second : List (List Point) = contours_in c.args.second.now in
     let before = c.add_contours-2.new.overlay in
-    let kept : subject_of before ≡ first = c.add_contours-2.ensures.other ∙ c.in_ok-add_contours.ensures.added ∙ ap (λ (l : List (List Point)). l ++ first) c.new-overlay.ensures.subject in
-    let other : clip_of before ≡ second = c.in_ok-add_contours-2.ensures.added ∙ ap (λ (l : List (List Point)). l ++ second) (c.add_contours.ensures.other ∙ c.new-overlay.ensures.clip) in
+    let kept : subject_of before ≡ first = c.add_contours-2.ensures.other ∙ (rw c.deref.ensures.value at c.in_ok-add_contours.ensures.added) ∙ ap (λ (l : List (List Point)). l ++ first) c.new-overlay.ensures.subject in
+    let other : clip_of before ≡ second = (rw c.deref-2.ensures.value at c.in_ok-add_contours-2.ensures.added) ∙ ap (λ (l : List (List Point)). l ++ second) (c.add_contours.ensures.other ∙ c.new-overlay.ensures.clip) in
     let rounding = c.add_contours-2.ensures.rounding ∙ c.add_contours.ensures.rounding ∙ c.new-overlay.ensures.rounding in
     let fault = c.in_err-arrangement.field-0.0 in
     refused_as c.from_residual-in_err-arrangement.result (IsOverlayRefusal first second) (RefusedContours fault) c.from_residual-in_err-arrangement.ensures.1
@@ -28,14 +28,14 @@ returns-in_err-arrangement-clause-refused g c =
 pub returns-then-reach-ne0-clause-matrix : goal.returns-then-reach-ne0-clause-matrix
 returns-then-reach-ne0-clause-matrix g c =
     let whole = g.I.OverlayInt.whole in
-    let first : List (List Point) = contours_of whole c.args.first.now in
-    let second : List (List Point) = contours_of whole c.args.second.now in
+    let first : List (List Point) = contours_in c.args.first.now in
+    let second : List (List Point) = contours_in c.args.second.now in
     let before = c.add_contours-2.new.overlay in
-    let kept : subject_of before ≡ first = c.add_contours-2.ensures.other ∙ c.in_ok-add_contours.ensures.added ∙ ap (λ (l : List (List Point)). l ++ first) c.new-overlay.ensures.subject in
-    let other : clip_of before ≡ second = c.in_ok-add_contours-2.ensures.added ∙ ap (λ (l : List (List Point)). l ++ second) (c.add_contours.ensures.other ∙ c.new-overlay.ensures.clip) in
+    let kept : subject_of before ≡ first = c.add_contours-2.ensures.other ∙ (rw c.deref.ensures.value at c.in_ok-add_contours.ensures.added) ∙ ap (λ (l : List (List Point)). l ++ first) c.new-overlay.ensures.subject in
+    let other : clip_of before ≡ second = (rw c.deref-2.ensures.value at c.in_ok-add_contours-2.ensures.added) ∙ ap (λ (l : List (List Point)). l ++ second) (c.add_contours.ensures.other ∙ c.new-overlay.ensures.clip) in
     let rounding = c.add_contours-2.ensures.rounding ∙ c.add_contours.ensures.rounding ∙ c.new-overlay.ensures.rounding in
     let arrangement = c.in_ok-arrangement.arrangement in
-    matrix_at_crossing first second c.all_meet.result c.all_meet.ensures
+    matrix_at_inexact first second c.all_meet-then-reach-ne0.result c.all_meet-then-reach-ne0.ensures
     (inexact_where_some first second (subject_of before) (clip_of before) (rounding_of before) g.I.OverlayInt.BITS c.args.solver.now kept other rounding (passes_of arrangement) (reach_of arrangement)
     (segments_of (arrangement_of arrangement).sides.items, c.in_ok-arrangement.ensures.arrangement.arrangement.left)
     (λ e. c.if-reach-ne0.true (c.reach.ensures ∙ e)))
@@ -43,12 +43,15 @@ returns-then-reach-ne0-clause-matrix g c =
 pub returns-clause-matrix : goal.returns-clause-matrix
 returns-clause-matrix g c =
     let whole = g.I.OverlayInt.whole in
-    let first : List (List Point) = contours_of whole c.args.first.now in
-    let second : List (List Point) = contours_of whole c.args.second.now in
+    let first : List (List Point) = contours_in c.args.first.now in
+    let second : List (List Point) = contours_in c.args.second.now in
     let before = c.add_contours-2.new.overlay in
-    let kept : subject_of before ≡ first = c.add_contours-2.ensures.other ∙ c.in_ok-add_contours.ensures.added ∙ ap (λ (l : List (List Point)). l ++ first) c.new-overlay.ensures.subject in
-    let other : clip_of before ≡ second = c.in_ok-add_contours-2.ensures.added ∙ ap (λ (l : List (List Point)). l ++ second) (c.add_contours.ensures.other ∙ c.new-overlay.ensures.clip) in
+    let kept : subject_of before ≡ first = c.add_contours-2.ensures.other ∙ (rw c.deref.ensures.value at c.in_ok-add_contours.ensures.added) ∙ ap (λ (l : List (List Point)). l ++ first) c.new-overlay.ensures.subject in
+    let other : clip_of before ≡ second = (rw c.deref-2.ensures.value at c.in_ok-add_contours-2.ensures.added) ∙ ap (λ (l : List (List Point)). l ++ second) (c.add_contours.ensures.other ∙ c.new-overlay.ensures.clip) in
     let rounding = c.add_contours-2.ensures.rounding ∙ c.add_contours.ensures.rounding ∙ c.new-overlay.ensures.rounding in
     c.in_ok-relation.ensures.matrix first second
     (arranged_of_kept first second (subject_of before) (clip_of before) (rounding_of before) g.I.OverlayInt.BITS c.args.solver.now kept other rounding (arrangement_of c.in_ok-arrangement.arrangement) c.in_ok-arrangement.ensures.arrangement)
     (sym c.reach.ensures ∙ c.if-reach-ne0.false)
+
+pub returns-then-branch-clause-matrix : goal.returns-then-branch-clause-matrix
+returns-then-branch-clause-matrix g c = matrix_at_crossing (contours_in c.args.first.now) (contours_in c.args.second.now) c.all_meet.result c.all_meet.ensures (c.in_ok-finds_crossing.ensures.crossing c.if-branch.true)

@@ -25,11 +25,11 @@ returns-in_err-relation-clause-refused g c =
     let cause = c.in_err-relation.field-0.0 in
     refused_as c.from_residual-in_err-relation.result (IsRefusalOf own c.args.fill_rule c.args.subject.now c.args.clip.now) (Refused cause) c.from_residual-in_err-relation.ensures.1
     (boundaries_refuse (own.whole own.MIN_COORD) (own.whole own.MAX_COORD) c.args.fill_rule c.args.fill_rule (contours_of own.whole c.args.subject.now) (contours_of own.whole c.args.clip.now) c.in_ok-test_range.ensures.in_range c.in_ok-test_range-2.ensures.in_range
-    (contours_of own.whole c.in_ok-first.first.items) (contours_of own.whole c.in_ok-second.second.items) c.in_ok-first.ensures.boundary c.in_ok-second.ensures.boundary cause
-    (rw (c.deref.ensures.value, c.deref-2.ensures.value) at c.in_err-relation.ensures.refused))
+    (contours_of own.whole c.in_ok-first.first.contours.items) (contours_of own.whole c.in_ok-second.second.contours.items) c.in_ok-first.ensures.boundary c.in_ok-second.ensures.boundary cause
+    c.in_err-relation.ensures.refused)
 
 pub returns-clause-matrix : goal.returns-clause-matrix
 returns-clause-matrix g c =
     let whole = g.I.OverlayInt.whole in
-    let matrix = rw (c.deref.ensures.value, c.deref-2.ensures.value) at c.in_ok-relation.ensures.matrix in
+    let matrix = c.in_ok-relation.ensures.matrix in
     matrix c.args.fill_rule c.args.fill_rule (contours_of whole c.args.subject.now) (contours_of whole c.args.clip.now) c.in_ok-first.ensures.boundary c.in_ok-second.ensures.boundary

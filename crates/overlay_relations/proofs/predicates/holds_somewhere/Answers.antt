@@ -28,13 +28,13 @@ returns-in_err-holds_between-clause-refused g c =
     let cause = c.in_err-holds_between.field-0.0 in
     refused_as c.from_residual-in_err-holds_between.result (IsRefusalOf own c.args.fill_rule c.args.subject.now c.args.clip.now) (Refused cause) c.from_residual-in_err-holds_between.ensures.1
     (boundaries_refuse (own.whole own.MIN_COORD) (own.whole own.MAX_COORD) c.args.fill_rule c.args.fill_rule (contours_of own.whole c.args.subject.now) (contours_of own.whole c.args.clip.now) c.in_ok-test_range.ensures.in_range c.in_ok-test_range-2.ensures.in_range
-    (contours_of own.whole c.in_ok-first.first.items) (contours_of own.whole c.in_ok-second.second.items) c.in_ok-first.ensures.boundary c.in_ok-second.ensures.boundary cause
-    (rw (c.deref.ensures.value, c.deref-2.ensures.value) at c.in_err-holds_between.ensures.refused))
+    (contours_of own.whole c.in_ok-first.first.contours.items) (contours_of own.whole c.in_ok-second.second.contours.items) c.in_ok-first.ensures.boundary c.in_ok-second.ensures.boundary cause
+    c.in_err-holds_between.ensures.refused)
 
 pub returns-clause-holds : goal.returns-clause-holds
 returns-clause-holds g c =
     let whole = g.I.OverlayInt.whole in
-    let first : List (List Point) = contours_of whole c.in_ok-first.first.items in
-    let second : List (List Point) = contours_of whole c.in_ok-second.second.items in
-    let decides : DecidesBetween c.args.overlay_rule first second _ = rw (c.deref.ensures.value, c.deref-2.ensures.value) at c.in_ok-holds_between.ensures.holds in
+    let first : List (List Point) = contours_of whole c.in_ok-first.first.contours.items in
+    let second : List (List Point) = contours_of whole c.in_ok-second.second.contours.items in
+    let decides : DecidesBetween c.args.overlay_rule first second _ = c.in_ok-holds_between.ensures.holds in
     decides c.args.fill_rule c.args.fill_rule (contours_of whole c.args.subject.now) (contours_of whole c.args.clip.now) c.in_ok-first.ensures.boundary c.in_ok-second.ensures.boundary

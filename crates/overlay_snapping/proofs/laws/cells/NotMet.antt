@@ -5,9 +5,13 @@ use Rattle.overlay_geometry.specs.Points.{Point, Pair, is_end, is_in_box}
 use Rattle.overlay_snapping.specs.Pixels.{meets_pixel, is_near_line}
 use Rattle.overlay_snapping.specs.steps.Met.{is_met}
 
-and_false : (b : Bool) → (b && false) ≡ false
+pub and_false : (b : Bool) → (b && false) ≡ false
 and_false true = refl
 and_false false = refl
+
+and_true : (b : Bool) → (b && true) ≡ b
+and_true true = refl
+and_true false = refl
 
 pub end_not_met : (s : Pair) (p : Point) → is_end s p ≡ true → is_met s p ≡ false
 end_not_met s p e = rw e (and_false (meets_pixel s p))
@@ -18,19 +22,25 @@ outside_not_met s p e = rw e refl
 
 pub no_end_met : (s : Pair) (p : Point) → is_end s p ≡ false → is_met s p ≡ meets_pixel s p
 no_end_met s p e = rw e (and_true (meets_pixel s p))
-  where
-    and_true : (b : Bool) → (b && true) ≡ b
-    and_true true = refl
-    and_true false = refl
 
 -- in the box, all but the ends are met near whose pixels the line passes
-pub near_met : (s : Pair) (p : Point) → is_in_box s p ≡ true → is_end s p ≡ false → is_met s p ≡ is_near_line s p
+pub inner_met : (s : Pair) (p : Point) → (is_in_box s p && not (is_end s p)) ≡ true → is_met s p ≡ is_near_line s p
 unfolding meets_pixel
-near_met s p e n = rw (n, e) (and_true (is_near_line s p))
+inner_met s p h = by (is_in_box s p) (is_end s p) h
   where
-    and_true : (b : Bool) → (b && true) ≡ b
-    and_true true = refl
-    and_true false = refl
+    by : (b e : Bool) → (b && not e) ≡ true → ((b && is_near_line s p) && not e) ≡ is_near_line s p
+    by false e h = absurd (cc h)
+    by true true h = absurd (cc h)
+    by true false h = and_true (is_near_line s p)
+
+pub not_inner_not_met : (s : Pair) (p : Point) → (is_in_box s p && not (is_end s p)) ≡ false → is_met s p ≡ false
+unfolding meets_pixel
+not_inner_not_met s p h = by (is_in_box s p) (is_end s p) h
+  where
+    by : (b e : Bool) → (b && not e) ≡ false → ((b && is_near_line s p) && not e) ≡ false
+    by false e h = refl
+    by true true h = and_false (is_near_line s p)
+    by true false h = absurd (cc h)
 
 pub met_in_box : (s : Pair) (p : Point) → is_met s p ≡ true → is_in_box s p ≡ true
 unfolding meets_pixel

@@ -1,12 +1,15 @@
 -- Parts of a list: what a new one adds, and that the others stay.
 use Rattle.std.proofs.Common.{◌≡◌, refl, sym, ap, subst, ◌∙◌, ◌⊎◌, inl, inr, ◌↔◌, ℕ, zero, suc, ◌+◌, ◌-◌, ◌<◌, ◌≤◌, IsTrue, List, [], ◌∷◌, ◌++◌, map, take, drop, length, arith}
-use Rattle.std.specs.Prelude.{Option, None, Some, Result, Ok, Err, OnOk, MatchOption, IfSome, Contains, slice_get}
+use Rattle.std.specs.Prelude.{ℤ, Option, None, Some, Result, Ok, Err, OnOk, MatchOption, IfSome, Contains, slice_get}
 use Rattle.std.proofs.lemmas.Bool.{cases_order}
 use Rattle.std.proofs.lemmas.Option.{slice_get_within}
 use Rattle.overlay_geometry.specs.Points.{Point, Pair}
+use Rattle.overlay_intersections.specs.declared.split.line_mark.LineMark.{LineMark}
+use Rattle.overlay_snapping.specs.steps.Cutting.{points_along}
 use Rattle.overlay_snapping.specs.steps.Met.{is_met, AddsAllMet}
 use Rattle.overlay_snapping.specs.steps.Recorded.{part_of}
 use Rattle.overlay_snapping.specs.declared.snap.meetings.Part.{Part}
+use Rattle.overlay_snapping.proofs.laws.closure.Elements.{no_element}
 
 taken_before : {X : Type 0} (xs ys : List X) (n : ℕ) → n ≤ length xs → take n (xs ++ ys) ≡ take n xs
 taken_before xs ys zero h = refl
@@ -124,3 +127,13 @@ recorded_at f segments points xs more parts all met slice same s i before kept a
 pub on_both_ok : {T E P Q R : Type 0} (r : Result T E) → (P → Q → R) → OnOk r P → OnOk r Q → OnOk r R
 on_both_ok (Ok x) f p q = f p q
 on_both_ok (Err e) f p q = tt
+
+-- a segment without marks whose part is there and has no points
+pub nothing_recorded : {I : Type 0} (whole : I → ℤ) (s : Pair) (points : List Point) (own : List (LineMark I)) → own ≡ [] → ((c : Point) → Contains [] c ↔ (Contains points c × IsTrue (is_met s c))) → AddsAllMet s points (points_along whole s own) []
+nothing_recorded {I = I} whole s points own none met =
+    subst (λ (l : List (LineMark I)). AddsAllMet s points (points_along whole s l) []) (sym none) (record {
+      added = [];
+      is = refl;
+      only = λ c i. absurd (no_element c i);
+      all = λ c i j m. absurd (no_element c ((met c).1 (i, m)));
+    })

@@ -1,5 +1,6 @@
-use Rattle.std.proofs.Common.{◌≡◌, sym, ap, subst, ◌∙◌, ◌++◌, ◌+◌, drop, IsTrue, List}
-use Rattle.std.specs.Prelude.{Vec}
+use Rattle.std.proofs.Common.{◌≡◌, refl, sym, ap, subst, ◌∙◌, ◌++◌, ◌+◌, drop, IsTrue, List, [], ◌∷◌}
+use Rattle.std.specs.Prelude.{Vec, Some}
+use Rattle.std.proofs.lemmas.List.{append-nil}
 use Rattle.std.specs.List.{list_all}
 use Rattle.std.specs.Global.{Global}
 use Rattle.overlay_geometry.specs.Coordinates.{is_point_in_range}
@@ -8,28 +9,28 @@ use Rattle.overlay_geometry.specs.declared.geom.point.IntPoint.{IntPoint}
 use Rattle.overlay_contours.specs.ContourSegments.{are_in_range}
 use Rattle.overlay_contours.specs.ContoursOf.{points_of, contours_of}
 use Rattle.overlay_contours.specs.ContoursIn.{LiesInRange}
-use Rattle.overlay_tiles.specs.TileOf.{tile_of}
+use Rattle.overlay_tiles.specs.TileOf.{tile_of, part_of}
 use Rattle.overlay_tiles.specs.Tiles.{IsTile, clipped, all_clipped, is_beside, reaching, thinned, in_tile}
 use Rattle.overlay_tiles.specs.Laws.{WindAlikeInTile, LieInTile, LieNearGiven}
 use Rattle.overlay_tiles.proofs.laws.Contours.{clipped_lie_in_tile}
 use Rattle.overlay_tiles.proofs.laws.Besides.{reaching_wind_alike, reaching_lie_near, inside_in_range}
 use Rattle.overlay_tiles.proofs.laws.Thins.{thinned_wind_alike, thinned_lie_in_tile, thinned_lie_near}
-use Rattle.overlay_tiles.proofs.laws.Clips.{passes_at, one_contour, no_contour_more, all_contours, pushed_one}
+use Rattle.overlay_tiles.proofs.laws.Clips.{passes_at, one_contour, all_contours, pushed_one}
 use Rattle.overlay_tiles.proofs.clip.clip_to_tile.Goals as goal
-use Rattle.overlay_tiles.proofs.clip.clip_to_tile.Goals.{then-not-is_beside+in_ok-clip_contour+in_ok-points+in_ok-push, else-not-is_beside}
-
-pub clip_contour-requires : goal.clip_contour-requires
-clip_contour-requires g c =
-    let I = g.I.OverlayInt in
-    let test = is_point_in_range (I.whole I.MIN_COORD) (I.whole I.MAX_COORD) in
-    subst (LiesInRange I.whole I.MIN_COORD I.MAX_COORD) (sym c.deref-then-not-is_beside.ensures.value)
-    (passes_at (λ (v : Vec (IntPoint _) Global). points_of I.whole v.items) (λ points. list_all test points) c.args.contours.now c.loop-contour.contour-index c.contour-item.result c.loop-contour-test.true c.contour-item.is c.requires)
+use Rattle.overlay_tiles.proofs.clip.clip_to_tile.Goals.{in-Some+in_ok-push, in_default}
 
 pub loop-contour-init : goal.loop-contour-init
 loop-contour-init g c =
     let whole = g.I.OverlayInt.whole in
     let all : List (List Point) = in_tile (tile_of whole c.args.tile.now) (contours_of whole c.args.contours.now) in
     ap (λ l. contours_of whole l ++ all) c.new-answer.ensures.items
+
+pub contour_in_tile-requires : goal.contour_in_tile-requires
+contour_in_tile-requires g c =
+    let I = g.I.OverlayInt in
+    let test = is_point_in_range (I.whole I.MIN_COORD) (I.whole I.MAX_COORD) in
+    subst (LiesInRange I.whole I.MIN_COORD I.MAX_COORD) (sym c.deref.ensures.value)
+    (passes_at (λ (v : Vec (IntPoint _) Global). points_of I.whole v.items) (λ points. list_all test points) c.args.contours.now c.loop-contour.contour-index c.contour-item.result c.loop-contour-test.true c.contour-item.is c.requires)
 
 pub loop-contour-preserved : goal.loop-contour-preserved
 loop-contour-preserved g c =
@@ -38,19 +39,18 @@ loop-contour-preserved g c =
     let contours = c.args.contours.now in
     let index = c.loop-contour.contour-index in
     let found : List (List Point) = contours_of whole c.loop-contour.answer.items in
-    let beside = c.is_beside.ensures ∙ ap (λ l. is_beside tile (points_of whole l)) c.deref.ensures.value in
-    elim c.if-not-is_beside.branch [
-      | then-not-is_beside+in_ok-clip_contour+in_ok-points+in_ok-push w ↦
-          one_contour tile (λ v. points_of whole v.items) contours index c.contour-item.result found _ _ c.loop-contour-test.true c.contour-item.is (sym beside ∙ w.if-not-is_beside.true)
-          (ap (λ v. contours_of whole v.items) w.answer-is
-          ∙ pushed_one (λ v. points_of whole v.items) c.loop-contour.answer.items _ _ _ w.in_ok-push.ensures.items
-          (w.in_ok-points.ensures
-          ∙ ap (λ l. thinned tile (points_of whole l)) w.deref-then-not-is_beside-2.ensures.value
-          ∙ ap (thinned tile) (w.in_ok-clip_contour.ensures ∙ ap (λ l. clipped tile (points_of whole l)) w.deref-then-not-is_beside.ensures.value)))
+    let of = c.in_ok-points.ensures.contour ∙ ap (λ l. in_tile tile (points_of whole l ∷ [])) c.deref.ensures.value in
+    elim c.match-branch-2.branch [
+      | in-Some+in_ok-push w ↦
+          one_contour tile (λ v. points_of whole v.items) contours index c.contour-item.result found (part_of whole (Some w.in-Some.points)) _ _ c.loop-contour-test.true c.contour-item.is
+          (ap (part_of whole) (sym w.in-Some.is) ∙ of)
+          (ap (λ v. contours_of whole v.items) w.answer-is ∙ pushed_one (λ v. points_of whole v.items) c.loop-contour.answer.items _ w.in-Some.points (points_of whole w.in-Some.points.items) w.in_ok-push.ensures.items refl)
           c.loop-contour.invariant
-      | else-not-is_beside w ↦
-          ap (λ v. contours_of whole v.items ++ in_tile tile (contours_of whole (drop (index + 1) contours))) w.answer-is
-          ∙ no_contour_more tile (λ v. points_of whole v.items) contours index c.contour-item.result found _ c.loop-contour-test.true c.contour-item.is (sym beside ∙ w.if-not-is_beside.false) c.loop-contour.invariant
+      | in_default w ↦
+          one_contour tile (λ v. points_of whole v.items) contours index c.contour-item.result found [] _ _ c.loop-contour-test.true c.contour-item.is
+          (ap (part_of whole) (sym w.in_default.is) ∙ of)
+          (ap (λ v. contours_of whole v.items) w.answer-is ∙ sym (append-nil found))
+          c.loop-contour.invariant
     ]
 
 pub returns : goal.returns

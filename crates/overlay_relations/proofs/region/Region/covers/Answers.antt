@@ -6,5 +6,5 @@ use Rattle.overlay_relations.proofs.region.Region.covers.Goals as goal
 
 pub returns-clause-covers : goal.returns-clause-covers
 returns-clause-covers g c =
-    let decides : DecidesBetween InverseDifference (boundary_of c.args.self.now) (boundary_of c.args.other.now) c.in_ok-is_left.is_left = rw (c.deref.ensures.value, c.deref-2.ensures.value) at c.in_ok-is_left.ensures.holds in
+    let decides : DecidesBetween InverseDifference (boundary_of c.args.self.now) (boundary_of c.args.other.now) c.in_ok-is_left.is_left = c.in_ok-is_left.ensures.holds in
     λ subject_rule clip_rule subject clip a b. covering subject_rule clip_rule subject clip c.in_ok-is_left.is_left (decides subject_rule clip_rule subject clip a b)

@@ -16,4 +16,4 @@ returns-clause-meet g c =
     let second = boundary_of c.args.other.now in
     IfOk-weaker c.holds_between.result (DecidesBetween Intersect first second) (λ (found : Bool). DecidesMeeting c.args.self.now c.args.other.now found)
     (λ found decides subject_rule clip_rule subject clip a b. meeting subject_rule clip_rule subject clip found (decides subject_rule clip_rule subject clip a b))
-    (rw (c.deref.ensures.value, c.deref-2.ensures.value) at c.holds_between.ensures.holds)
+    c.holds_between.ensures.holds

@@ -10,5 +10,5 @@ returns-then-not-is_near-clause-disjoint g c = apart_disjoint c.args.self.now c.
 
 pub returns-clause-disjoint : goal.returns-clause-disjoint
 returns-clause-disjoint g c =
-    let is : IsBoundaryContact (boundary_of c.args.self.now) (boundary_of c.args.other.now) c.in_ok-contact.contact = rw (c.deref.ensures.value, c.deref-2.ensures.value) at c.in_ok-contact.ensures.contact in
+    let is : IsBoundaryContact (boundary_of c.args.self.now) (boundary_of c.args.other.now) c.in_ok-contact.contact = c.in_ok-contact.ensures.contact in
     λ subject_rule clip_rule subject clip a b. lying_apart subject_rule clip_rule subject clip c.in_ok-contact.contact (is subject_rule clip_rule subject clip a b) c.is_apart.result c.is_apart.ensures

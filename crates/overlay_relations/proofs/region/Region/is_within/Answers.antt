@@ -6,5 +6,5 @@ use Rattle.overlay_relations.proofs.region.Region.is_within.Goals as goal
 
 pub returns-clause-within : goal.returns-clause-within
 returns-clause-within g c =
-    let decides : DecidesBetween Difference (boundary_of c.args.self.now) (boundary_of c.args.other.now) c.in_ok-is_left.is_left = rw (c.deref.ensures.value, c.deref-2.ensures.value) at c.in_ok-is_left.ensures.holds in
+    let decides : DecidesBetween Difference (boundary_of c.args.self.now) (boundary_of c.args.other.now) c.in_ok-is_left.is_left = c.in_ok-is_left.ensures.holds in
     λ subject_rule clip_rule subject clip a b. lying_within subject_rule clip_rule subject clip c.in_ok-is_left.is_left (decides subject_rule clip_rule subject clip a b)

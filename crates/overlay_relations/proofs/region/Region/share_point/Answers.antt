@@ -10,5 +10,5 @@ returns-then-not-is_near-clause-share g c = apart_sharing c.args.self.now c.args
 
 pub returns-clause-share : goal.returns-clause-share
 returns-clause-share g c =
-    let is : IsBoundaryContact (boundary_of c.args.self.now) (boundary_of c.args.other.now) c.in_ok-contact.contact = rw (c.deref.ensures.value, c.deref-2.ensures.value) at c.in_ok-contact.ensures.contact in
+    let is : IsBoundaryContact (boundary_of c.args.self.now) (boundary_of c.args.other.now) c.in_ok-contact.contact = c.in_ok-contact.ensures.contact in
     λ subject_rule clip_rule subject clip a b. sharing subject_rule clip_rule subject clip c.in_ok-contact.contact (is subject_rule clip_rule subject clip a b) c.is_sharing.result c.is_sharing.ensures

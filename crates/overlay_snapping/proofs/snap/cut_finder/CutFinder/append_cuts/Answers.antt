@@ -1,4 +1,4 @@
-use Rattle.std.proofs.Common.{◌∙◌, sym, subst, List, [], map, append-nil, arith}
+use Rattle.std.proofs.Common.{◌∙◌, refl, sym, subst, List, [], map, append-nil, arith}
 use Rattle.std.specs.Vec.{vec_len}
 use Rattle.std.proofs.lemmas.List.{length-map, nil_from_length}
 use Rattle.std.proofs.lemmas.Bool.{eqb-true}
@@ -18,6 +18,7 @@ use Rattle.overlay_snapping.proofs.laws.chains.MarkLists.{pair_at}
 use Rattle.overlay_snapping.proofs.laws.cuts.Between.{cut_at, are_between, none_between, cuts_at, added_more, added_all}
 use Rattle.overlay_snapping.proofs.laws.cuts.Ranges.{own_in_range}
 use Rattle.overlay_snapping.proofs.laws.cuts.Reads.{segment_pair, segment_there}
+use Rattle.overlay_snapping.proofs.laws.cells.Recorded.{nothing_recorded}
 use Rattle.overlay_snapping.proofs.snap.cut_finder.CutFinder.append_cuts.Goals as goal
 
 pub collect_along-requires-clause-in_range : goal.collect_along-requires-clause-in_range
@@ -112,6 +113,32 @@ returns-in_err-append_hot-clause-known g c = record {
   decided = c.requires.known.decided;
   recorded = subst (λ (l : List (IntPoint _)). AreRecorded (pairs (segments_of c.args.segments.now)) (map (point_of g.I.OverlayInt.whole) l) c.args.self.now.closure.meetings) (sym c.append_hot.ensures.same) c.requires.known.recorded;
 }
+
+pub append_hot-requires-clause-in_range : goal.append_hot-requires-clause-in_range
+append_hot-requires-clause-in_range g c = rw (c.x_segment-segment.ensures, c.index-segments-index.is) (c.requires.in_range c.args.index c.index-segments-index.result c.requires.index)
+
+pub returns-then-is_untouched-clause-cuts : goal.returns-then-is_untouched-clause-cuts
+returns-then-is_untouched-clause-cuts g c =
+    let whole = g.I.OverlayInt.whole in
+    let xs = c.args.segments.now in
+    let index = c.args.index in
+    let points = points_in c.args.self.now.hot in
+    let own = c.args.own.now in
+    let long = length-map xs (λ s. segment_of s) in
+    let within = c.requires.index in
+    let none = c.is_untouched.ensures c.if-is_untouched.true in
+    let there = segment_there xs index c.index-segments-index.result c.x_segment-segment.result within c.index-segments-index.is c.x_segment-segment.ensures in
+    let met = nothing_recorded whole (pair_of whole c.x_segment-segment.result) points own none.0 (c.requires.known.recorded index (pair_of whole c.x_segment-segment.result) there [] none.1) in (
+      [],
+      sym (append-nil c.args.cuts.now.items),
+      cuts_at xs index [] (λ d.
+          none_between g.I.PartialEq.eq g.I.Ord.cmp whole g.met.I.Ord.matches_eq g.met.I.OverlayInt.ordered g.met.I.OverlayInt.injective (segments_of xs) (are_ordered-map (segments_of xs) c.requires.map) points
+          c.requires.known.hot c.requires.known.decided _ (pair_at (segments_of xs) index d (omega (arith, within, long))) own (c.requires.own d) []
+          (subst (λ (s : Pair). AddsAllMet s points (points_along whole s own) [])
+          (sym (segment_pair xs index c.index-segments-index.result c.x_segment-segment.result within c.index-segments-index.is c.x_segment-segment.ensures d))
+          met)
+          refl),
+    )
 
 pub append_hot-requires-clause-recorded : goal.append_hot-requires-clause-recorded
 append_hot-requires-clause-recorded g c =

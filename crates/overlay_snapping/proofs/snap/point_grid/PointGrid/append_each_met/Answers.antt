@@ -10,13 +10,13 @@ use Rattle.overlay_snapping.proofs.laws.closure.Elements.{no_element}
 use Rattle.overlay_snapping.proofs.laws.cells.Added.{adds_nothing, adds_fewer, adds_point, adds_no_point, pushed_point, taken_or_next}
 use Rattle.overlay_snapping.proofs.laws.cells.Users.{item_in, in_range_at}
 use Rattle.overlay_snapping.proofs.snap.point_grid.PointGrid.append_each_met.Goals as goal
-use Rattle.overlay_snapping.proofs.snap.point_grid.PointGrid.append_each_met.Goals.{then-is_met+in_ok-push, else-is_met}
+use Rattle.overlay_snapping.proofs.snap.point_grid.PointGrid.append_each_met.Goals.{then-is_met_alone+in_ok-push, else-is_met_alone}
 
 pub loop-point-init : goal.loop-point-init
 loop-point-init g c = adds_nothing (pair_of g.I.OverlayInt.whole c.args.segment.now) (points_in c.args.self.now) (λ q. Contains [] q) (map (point_of g.I.OverlayInt.whole) c.args.met.now.items) (λ q i. no_element q i)
 
-pub is_met-requires-clause-point : goal.is_met-requires-clause-point
-is_met-requires-clause-point g c =
+pub is_met_alone-requires-clause-point : goal.is_met_alone-requires-clause-point
+is_met_alone-requires-clause-point g c =
     let whole = g.I.OverlayInt.whole in
     in_range_at whole (is_point_in_range (whole g.I.OverlayInt.MIN_COORD) (whole g.I.OverlayInt.MAX_COORD)) c.args.self.now.points.items c.deref-point-items.result.now c.deref-point-items.ensures.value c.args.self.now.in_range
     c.loop-point.point-index c.point-item.result c.loop-point-test.true c.point-item.is
@@ -36,11 +36,11 @@ loop-point-preserved g c =
     let before = λ (q : Point). Contains (map (point_of whole) (take i items)) q in
     let after = λ (q : Point). Contains (map (point_of whole) (take (i + 1) items)) q in
     let split : (q : Point) → Contains points q → after q → before q ⊎ (p ≡ q) = λ q k j. taken_or_next (point_of whole) items i x c.loop-point-test.true c.point-item.is q j in
-    elim c.if-is_met.branch [
-      | then-is_met+in_ok-push w ↦
-          rw w.met-is (adds_point s points before after old now (map (point_of whole) w.push.new.self.items) p c.loop-point.invariant there (sym c.is_met.ensures ∙ w.if-is_met.true)
+    elim c.if-is_met_alone.branch [
+      | then-is_met_alone+in_ok-push w ↦
+          rw w.met-is (adds_point s points before after old now (map (point_of whole) w.push.new.self.items) p c.loop-point.invariant there (sym c.is_met_alone.ensures ∙ w.if-is_met_alone.true)
           (pushed_point (point_of whole) c.loop-point.met.items w.push.new.self.items x w.in_ok-push.ensures.items) split)
-      | else-is_met w ↦ rw w.met-is (adds_no_point s points before after old now p c.loop-point.invariant (sym c.is_met.ensures ∙ w.if-is_met.false) split)
+      | else-is_met_alone w ↦ rw w.met-is (adds_no_point s points before after old now p c.loop-point.invariant (sym c.is_met_alone.ensures ∙ w.if-is_met_alone.false) split)
     ]
 
 pub returns : goal.returns

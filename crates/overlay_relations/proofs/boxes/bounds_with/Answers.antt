@@ -5,7 +5,7 @@ use Rattle.overlay_geometry.specs.Ranges.{Rect}
 use Rattle.overlay_relations.specs.steps.Columns.{IsBoxWithin}
 use Rattle.overlay_contours.proofs.laws.Boxes.{whole_min, whole_max}
 use Rattle.overlay_relations.proofs.laws.Columns.{box_around, within_first, within_second}
-use Rattle.overlay_relations.proofs.columns.bounds_with.Goals as goal
+use Rattle.overlay_relations.proofs.boxes.bounds_with.Goals as goal
 
 pub returns-in-Some-clause-found : goal.returns-in-Some-clause-found
 returns-in-Some-clause-found g c =
