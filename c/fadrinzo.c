@@ -859,7 +859,8 @@ static fadrinzo_status clip_steps(fadrinzo *overlay, clipping *it, const fadrinz
     if (it->step_count) {
         status = give_all(it, overlay);
         if (status == FADRINZO_OK)
-            status = (fadrinzo_status)overlay_c_clip_with_numbers(&overlay->handle, it->given, it->given_count, settings, invert, boundary_included);
+            status = (fadrinzo_status)overlay_c_clip_with_numbers(
+                &overlay->handle, it->given, it->given_count, settings, invert, boundary_included);
         if (status == FADRINZO_OK)
             status = find_pieces(it, overlay);
     }

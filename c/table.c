@@ -845,21 +845,40 @@ static void check_clips(void)
     fadrinzo_free(overlay);
 }
 
-/* The greatest square has steps of lines along it whose ends are as far apart as can be; what is cut from them is in order. */
+/* Steps of a line whose ends are as far apart as can be, through two columns, on both sides of their middles. */
 static void check_far_clips(void)
 {
+    enum { LOW = FADRINZO_MIN_COORD, HIGH = FADRINZO_MAX_COORD };
+    static const int32_t left[] = {-110, LOW, -90, LOW, -90, HIGH, -110, HIGH}, right[] = {100, LOW, 120, LOW, 120, HIGH, 100, HIGH};
+    static const int32_t line[] = {HIGH, 7, LOW, 7, LOW, HIGH, HIGH, HIGH, LOW, LOW};
+    /* along the tops of the columns, which count as inside, and along the diagonal on its way back */
+    static const int32_t wanted[] = {120, 7, 100, 7, -90, 7, -110, 7, -110, HIGH, -90, HIGH, 100, HIGH, 120, HIGH, 120, 120, 100, 100, -90, -90, -110, -110};
+    static const size_t length[1] = {5};
     fadrinzo *overlay = fadrinzo_new();
     CHECK(overlay, "memory");
-    const int32_t low = FADRINZO_MIN_COORD, high = FADRINZO_MAX_COORD;
-    const int32_t tooth[] = {-10, low, 10, low, 10, high, -10, high}, other[] = {100, low, 120, low, 120, high, 100, high};
-    CHECK(fadrinzo_add_contour(overlay, 0, tooth, 4) == FADRINZO_OK && fadrinzo_add_contour(overlay, 0, other, 4) == FADRINZO_OK, "teeth");
-    const int32_t line[] = {high, 7, low, 7, low, high, high, high, low, low};
-    const size_t length[1] = {5};
+    CHECK(fadrinzo_add_contour(overlay, 0, left, 4) == FADRINZO_OK && fadrinzo_add_contour(overlay, 0, right, 4) == FADRINZO_OK, "columns");
     CHECK(fadrinzo_clip_lines(overlay, line, length, 1, 0, 1, 1, 0) == FADRINZO_OK, "a line");
     fadrinzo_parts found = fadrinzo_get_parts(overlay);
-    /* the border at the top runs through both, and so does the diagonal on its way back */
-    static const int32_t wanted[] = {120, 7, 100, 7, 10, 7, -10, 7, -10, FADRINZO_MAX_COORD, 10, FADRINZO_MAX_COORD, 100, FADRINZO_MAX_COORD, 120, FADRINZO_MAX_COORD, 120, 120, 100, 100, 10, 10, -10, -10};
     CHECK(found.count == 6 && found.points == 12 && !memcmp(found.xy, wanted, sizeof wanted), "%zu parts", found.count);
+    fadrinzo_free(overlay);
+}
+
+/* Points at which sides meet a line stay, and sides far beside it wind around it all the same. */
+static void check_sides_of_clips(void)
+{
+    static const int32_t over[8] = {5, -5, 15, -5, 15, 15, 5, 15}, line[4] = {1, 5, 14, 5}, wanted[8] = {1, 5, 5, 5, 10, 5, 14, 5};
+    static const int32_t far[10] = {-90000, -90000, 0, -95000, 90000, -90000, 90000, 90000, -90000, 90000};
+    static const size_t length[1] = {2};
+    fadrinzo *overlay = fadrinzo_new();
+    CHECK(overlay, "memory");
+    CHECK(fadrinzo_add_contour(overlay, 0, ten, 4) == FADRINZO_OK && fadrinzo_add_contour(overlay, 0, over, 4) == FADRINZO_OK, "squares");
+    CHECK(fadrinzo_clip_lines(overlay, line, length, 1, 0, 0, 1, 0) == FADRINZO_OK, "a line");
+    fadrinzo_parts found = fadrinzo_get_parts(overlay);
+    CHECK(found.count == 1 && found.points == 4 && !memcmp(found.xy, wanted, sizeof wanted), "%zu points", found.points);
+    CHECK(fadrinzo_clear(overlay) == FADRINZO_OK && fadrinzo_get_parts(overlay).count == 1, "cleared");
+    CHECK(fadrinzo_add_contour(overlay, 0, far, 5) == FADRINZO_OK && fadrinzo_clip_lines(overlay, line, length, 1, 0, 0, 1, 0) == FADRINZO_OK, "far");
+    found = fadrinzo_get_parts(overlay);
+    CHECK(found.count == 1 && found.points == 2 && !memcmp(found.xy, line, sizeof line), "%zu parts", found.count);
     fadrinzo_free(overlay);
 }
 
@@ -914,6 +933,7 @@ int main(void)
     check_split_refusals();
     check_clips();
     check_far_clips();
+    check_sides_of_clips();
     check_clip_refusals();
     check_texts();
     puts("all as the definitions say");

@@ -22,9 +22,9 @@ import typing
 import weakref
 
 __version__ = "0.2.0"
-__all__ = ["Arrangement", "MAX_COORD", "MIN_COORD", "NotExactError", "OverlayError", "clip_lines", "covers", "interiors_meet", "is_disjoint", "is_within",
-           "locate", "overlay", "overlay_by_rules", "overlay_polygons", "relate", "relate_pattern", "related_pairs", "same_region", "split",
-           "touches"]
+__all__ = ["Arrangement", "MAX_COORD", "MIN_COORD", "NotExactError", "OverlayError", "clip_lines", "covers", "interiors_meet", "is_disjoint",
+           "is_within", "locate", "overlay", "overlay_by_rules", "overlay_polygons", "relate", "relate_pattern", "related_pairs", "same_region",
+           "split", "touches"]
 
 MIN_COORD, MAX_COORD = -(1 << 30), (1 << 30) - 1
 

@@ -31,23 +31,24 @@ def _parts(found, scale):
 
 
 @typing.overload
-def clip_lines(contours: base.Contours, lines: typing.Iterable[Line], invert: bool = False, boundary_included: bool = False, fill: base.Fill = "nonzero",
-               scale: None = None, rounding: base.Rounding = "hot-pixels") -> typing.List[Part[int]]: ...
+def clip_lines(contours: base.Contours, lines: typing.Iterable[Line], invert: bool = False, boundary_included: bool = False,
+               fill: base.Fill = "nonzero", scale: None = None, rounding: base.Rounding = "hot-pixels") -> typing.List[Part[int]]: ...
 @typing.overload
-def clip_lines(contours: base.Contours, lines: typing.Iterable[Line], invert: bool = False, boundary_included: bool = False, fill: base.Fill = "nonzero",
-               *, scale: base.Scale, rounding: base.Rounding = "hot-pixels") -> typing.List[Part[base.Scale]]: ...
+def clip_lines(contours: base.Contours, lines: typing.Iterable[Line], invert: bool = False, boundary_included: bool = False,
+               fill: base.Fill = "nonzero", *, scale: base.Scale, rounding: base.Rounding = "hot-pixels") -> typing.List[Part[base.Scale]]: ...
 @typing.overload
-def clip_lines(contours: base.Contours, lines: typing.Iterable[Line], invert: bool, boundary_included: bool, fill: base.Fill,
-               scale: base.Scale, rounding: base.Rounding = "hot-pixels") -> typing.List[Part[base.Scale]]: ...
-def clip_lines(contours: base.Contours, lines: typing.Iterable[Line], invert: bool = False, boundary_included: bool = False, fill: base.Fill = "nonzero",
-               scale: typing.Optional[base.AnyScale] = None, rounding: base.Rounding = "hot-pixels") -> typing.Any:
-    """The parts of lines inside contours or, if `invert`, outside of them: a list of pairs of the number of the line and the points of the part,
-    line by line, in the direction and the order of their lines.
+def clip_lines(contours: base.Contours, lines: typing.Iterable[Line], invert: bool, boundary_included: bool,
+               fill: base.Fill, scale: base.Scale, rounding: base.Rounding = "hot-pixels") -> typing.List[Part[base.Scale]]: ...
+def clip_lines(contours: base.Contours, lines: typing.Iterable[Line], invert: bool = False, boundary_included: bool = False,
+               fill: base.Fill = "nonzero", scale: typing.Optional[base.AnyScale] = None, rounding: base.Rounding = "hot-pixels") -> typing.Any:
+    """The parts of lines inside contours or, if `invert`, outside of them: a list of pairs of the number of the line and the points of
+    the part, line by line, in the direction and the order of their lines.
 
-    A line is a list of points, each joined to the next one. A part along the boundary counts as inside if `boundary_included`. A part goes on
-    from a step of its line to the next if it comes to the end of the step. Lines that overlap have a part each. The direction of a contour
-    counts, as for `overlay`. `rounding` is that of `split`: under "hot-pixels" the points of a part lie within half a unit of its steps, in x and
-    in y. Points at which lines meet one another, and no contour, are left out. What puts pieces together is tested, not proved.
+    A line is a list of points, each joined to the next one. A part along the boundary counts as inside if `boundary_included`. A part goes
+    on from a step of its line to the next if it comes to the end of the step. Lines that overlap have a part each. The direction of a
+    contour counts, as for `overlay`. `rounding` is that of `split`: under "hot-pixels" the points of a part lie within half a unit of its
+    steps, in x and in y. Points at which lines meet one another, and no contour, are left out. What puts pieces together is tested, not
+    proved.
 
     Other arguments and errors are those of `overlay`; ValueError and TypeError name the line and the point.
 
@@ -58,5 +59,6 @@ def clip_lines(contours: base.Contours, lines: typing.Iterable[Line], invert: bo
     with base._loaded(contours, [], scale) as handle:
         numbers, lengths = _given(lines, scale)
         xy, counts = (ctypes.c_int32 * len(numbers))(*numbers), (ctypes.c_size_t * len(lengths))(*lengths)
-        base._check(base._calls().fadrinzo_clip_lines(handle, xy, counts, len(lengths), bool(invert), bool(boundary_included), fill_code, rounding_code))
+        base._check(base._calls().fadrinzo_clip_lines(handle, xy, counts, len(lengths), bool(invert), bool(boundary_included), fill_code,
+                                                      rounding_code))
         return _parts(base._calls().fadrinzo_get_parts(handle), scale)
