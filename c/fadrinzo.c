@@ -752,11 +752,60 @@ static int compare_pieces(const void *one, const void *other)
     return found ? found : compare_points(&p->end, &q->end);
 }
 
+typedef int comparison(const void *one, const void *other);
+
+/* A list that is sorted: items of so many bytes, by a comparison. */
+typedef struct {
+    char *items;
+    size_t size;
+    comparison *compare;
+} sorting;
+
+static void exchange(const sorting *it, size_t one, size_t other)
+{
+    char *p = it->items + one * it->size, *q = it->items + other * it->size;
+    for (size_t i = 0; i < it->size; i++) {
+        char kept = p[i];
+        p[i] = q[i];
+        q[i] = kept;
+    }
+}
+
+static int is_before(const sorting *it, size_t one, size_t other)
+{
+    return it->compare(it->items + one * it->size, it->items + other * it->size) < 0;
+}
+
+/* Moves an item down the heap of the first so many until none below it comes behind it. */
+static void sift(const sorting *it, size_t at, size_t count)
+{
+    for (size_t child = 2 * at + 1; child < count; child = 2 * at + 1) {
+        if (child + 1 < count && is_before(it, child, child + 1))
+            child++;
+        if (!is_before(it, at, child))
+            return;
+        exchange(it, at, child);
+        at = child;
+    }
+}
+
+/* Sorts a list as a heap, in place. The page in the browser has no C library, and so no qsort. */
+static void sort(void *items, size_t count, size_t size, comparison *compare)
+{
+    sorting it = {.items = items, .size = size, .compare = compare};
+    for (size_t at = count / 2; at > 0; at--)
+        sift(&it, at - 1, count);
+    for (size_t end = count; end > 1; end--) {
+        exchange(&it, 0, end - 1);
+        sift(&it, 0, end - 1);
+    }
+}
+
 /* Puts the pieces and the corners in order, each piece once. */
 static void sort_pieces(clipping *it)
 {
-    qsort(it->pieces, it->piece_count, sizeof *it->pieces, compare_pieces);
-    qsort(it->corners, it->corner_count, sizeof *it->corners, compare_points);
+    sort(it->pieces, it->piece_count, sizeof *it->pieces, compare_pieces);
+    sort(it->corners, it->corner_count, sizeof *it->corners, compare_points);
     size_t kept = 0;
     for (size_t i = 0; i < it->piece_count; i++)
         if (!i || compare_pieces(&it->pieces[kept - 1], &it->pieces[i]))
@@ -824,6 +873,23 @@ static int goes_on(const clipping *it, size_t index)
     return is_same_point(last->end, next->start) && (next->step == last->step || is_next_step);
 }
 
+/* Whether a point is an end of a side. */
+static int is_corner(const clipping *it, fadrinzo_point point)
+{
+    size_t from = 0, to = it->corner_count;
+    while (from < to) {
+        size_t middle = from + (to - from) / 2;
+        int found = compare_points(&it->corners[middle], &point);
+        if (!found)
+            return 1;
+        if (found < 0)
+            from = middle + 1;
+        else
+            to = middle;
+    }
+    return 0;
+}
+
 /* Keeps the parts that pieces make up. Points at which lines alone meet are left out. */
 static fadrinzo_status keep_parts(fadrinzo *overlay, const clipping *it)
 {
@@ -841,8 +907,7 @@ static fadrinzo_status keep_parts(fadrinzo *overlay, const clipping *it)
             overlay->part_starts[count] = points;
             overlay->part_lines[count++] = it->steps[next->step].line;
             overlay->part_points[points++] = next->start;
-        } else if (next->step == it->pieces[i - 1].step
-                   && !bsearch(&next->start, it->corners, it->corner_count, sizeof *it->corners, compare_points))
+        } else if (next->step == it->pieces[i - 1].step && !is_corner(it, next->start))
             points--;
         overlay->part_points[points++] = next->end;
     }

@@ -62,7 +62,7 @@ PLANTS = [
     Plant("regions are exchanged", C, "&settings, first, second, (uint8_t)relation", "&settings, second, first, (uint8_t)relation"),
     Plant("contours of many are turned", C, "lengths, contours, add_as_given);", "lengths, contours, add_turned);"),
     Plant("parts go on where the line left", C, " && is_same_point(last->end, from->b);", ";"),
-    Plant("points at which contours meet lines are left out", C, "it->corner_count, sizeof *it->corners, compare_points))", "it->corner_count - it->corner_count, sizeof *it->corners, compare_points))"),
+    Plant("points at which contours meet lines are left out", C, "&& !is_corner(it, next->start))", ")"),
     Plant("points at which lines meet stay", C, "        if (segment->subj) {", "        if (segment) {"),
     Plant("parts outside are those along the boundary", C, "invert != 0, boundary_included != 0)", "boundary_included != 0, invert != 0)"),
     Plant("sums along far steps leave their range", C, ".half = half_of(of_p) + half_of(of_q) + rests / 2,", ".half = (int64_t)((uint64_t)of_p + (uint64_t)of_q),"),
