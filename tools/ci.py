@@ -9,7 +9,7 @@ command has that made by itself.
 `tools/archive.py --beside-ci` and `tools/dist.py` have the crates compiled by these records, and the toolchain refuses them where
 anything differs.
 The two lowest libraries get a job for each of half of the processors, since nothing else can be proved before them, and the last
-crates of the longest chain two jobs each; the other processors try edits. Under a toolchain whose command has other steps this is plain `rt ci`, and the archive's crate is proved once more.
+crates of the longest chain, from snap rounding on, two jobs each; the other processors try edits. Under a toolchain whose command has other steps this is plain `rt ci`, and the archive's crate is proved once more.
 """
 import importlib.machinery
 import importlib.util
@@ -24,7 +24,7 @@ import run  # noqa: E402  (beside this file)
 RECORD = "out/checked"
 SHIPPED = ("overlay_c", "polygons")
 LOWEST = ("overlay_geometry", "overlay_base")
-LAST = ("overlay_contours", "overlay_c", "polygons")
+LAST = ("overlay_snapping", "overlay_contours", "overlay_c", "polygons")
 
 
 def command():

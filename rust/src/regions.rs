@@ -2,6 +2,7 @@
 
 use crate::relations::{error_of, Code};
 use crate::{Error, FillRule, IntPoint, Overlay, Relation, ShapeType, Solver};
+use std::fmt;
 
 /// Regions that are prepared once for relations to one another, each with a number. Nothing is rounded, and each result is proved.
 ///
@@ -26,6 +27,12 @@ use crate::{Error, FillRule, IntPoint, Overlay, Relation, ShapeType, Solver};
 pub struct Regions {
     overlay: Overlay,
     len: usize,
+}
+
+impl fmt::Debug for Regions {
+    fn fmt(&self, f: &mut fmt::Formatter<'_>) -> fmt::Result {
+        f.debug_struct("Regions").field("len", &self.len).finish_non_exhaustive()
+    }
 }
 
 impl Regions {

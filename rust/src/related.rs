@@ -114,7 +114,12 @@ impl Prepared {
     }
 
     /// The number of a second region, which is prepared at first. An error names it as the clip.
-    fn clip<D: AsRef<[IntPoint]>>(&mut self, other: usize, contours: &[D], fill_rule: FillRule) -> Result<usize, Error> {
+    fn clip<D: AsRef<[IntPoint]>>(
+        &mut self,
+        other: usize,
+        contours: &[D],
+        fill_rule: FillRule,
+    ) -> Result<usize, Error> {
         if let Some(clip) = self.clips[other] {
             return Ok(clip);
         }
@@ -128,7 +133,9 @@ impl Prepared {
 fn as_clip(error: Error) -> Error {
     match error {
         Error::NotExact(_) => Error::NotExact(ShapeType::Clip),
-        Error::Point { contour, point, fault, .. } => Error::Point { shape_type: ShapeType::Clip, contour, point, fault },
+        Error::Point { contour, point, fault, .. } => {
+            Error::Point { shape_type: ShapeType::Clip, contour, point, fault }
+        }
         other => other,
     }
 }
