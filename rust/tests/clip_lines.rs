@@ -140,6 +140,29 @@ fn parts_run_along_their_line() {
     assert_eq!(parts(true), outside);
 }
 
+/// Lines that overlap have a part each, and no point where they cross one another alone.
+#[test]
+fn lines_that_meet_have_a_part_each() {
+    let square = [[0, 0], [10, 0], [10, 10], [0, 10]].map(IntPoint::from);
+    let line = |points: &[[i32; 2]]| points.iter().copied().map(IntPoint::from).collect::<Vec<_>>();
+    let lines = [
+        line(&[[-5, 5], [15, 5]]),
+        line(&[[12, 5], [3, 5]]),
+        line(&[[5, -5], [5, 15]]),
+        line(&[[-5, 5], [15, 5]]),
+        line(&[[20, 0], [20, 9]]),
+    ];
+    let mut overlay = Overlay::new().unwrap();
+    let rule = ClipRule { invert: false, boundary_included: false };
+    let wanted = [
+        (0, line(&[[0, 5], [10, 5]])),
+        (1, line(&[[10, 5], [3, 5]])),
+        (2, line(&[[5, 0], [5, 10]])),
+        (3, line(&[[0, 5], [10, 5]])),
+    ];
+    assert_eq!(overlay.clip_lines(&[square], &lines, rule, FillRule::NonZero).unwrap(), wanted);
+}
+
 /// The line leaves the polygons between two parts, and comes back to the point at which it left.
 #[test]
 fn a_part_ends_where_the_line_leaves() {
