@@ -103,6 +103,16 @@ typedef struct {
     size_t count;
 } fadrinzo_edges;
 
+/* The parts of lines that a clip kept: points as x, y, x, y, .., part after part. Part i has the points from starts[i] to before
+   starts[i + 1], and is one of line lines[i], from 0. Valid until the next clip of lines on the overlay. */
+typedef struct {
+    const int32_t *xy;
+    const size_t *starts;
+    const size_t *lines;
+    size_t points;
+    size_t count;
+} fadrinzo_parts;
+
 /* The result of the last overlay: points as x, y, x, y, .., contour after contour, and contours shape after shape. Contour i has the
    points from contour_starts[i] to before contour_starts[i + 1], and shape i the contours from shape_starts[i] to before
    shape_starts[i + 1], its outer boundary first. There are no shapes after fadrinzo_overlay. All is valid until the next call
@@ -222,6 +232,18 @@ fadrinzo_status fadrinzo_split(fadrinzo *overlay, const fadrinzo_edge *edges, si
 
 /* The segments that the last split left. Nothing after one that failed, for whatever reason. */
 fadrinzo_edges fadrinzo_get_edges(const fadrinzo *overlay);
+
+/* Keeps the parts of so many lines that lie inside the contours that were added to the subject or, if invert is not 0, outside. Line i has
+   lengths[i] points, behind those of the lines before it, each joined to the next one. A part along the boundary counts as inside if
+   boundary_included is not 0. The direction of a contour counts. fadrinzo_get_parts returns the parts, line by line, in the direction and
+   the order of their lines. A part goes on from a step to the next if it comes to the end of the step. Lines that overlap have a part each.
+   Under FADRINZO_SNAP_ROUNDING the points of a part lie within half a unit of its steps, in x and in y. Points at which lines meet one
+   another, and no contour, are left out. Contours and the result of the last overlay stay. What puts pieces together is tested, not proved. */
+fadrinzo_status fadrinzo_clip_lines(fadrinzo *overlay, const int32_t *xy, const size_t *lengths, size_t lines, int invert, int boundary_included,
+                                    int fill_rule, int rounding);
+
+/* The parts that the last clip of lines kept. Nothing after one that failed, for whatever reason. */
+fadrinzo_parts fadrinzo_get_parts(const fadrinzo *overlay);
 
 /* The result of the last overlay. Nothing after one that failed, for whatever reason: a wrong argument, a refused growth, a count. A call that
    makes no overlay leaves it, but for fadrinzo_clear. */

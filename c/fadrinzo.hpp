@@ -135,6 +135,19 @@ enum class Relation {
 /* How crossings without integer coordinates are rounded. */
 enum class Rounding { SnapRounding = FADRINZO_SNAP_ROUNDING, Pairwise = FADRINZO_PAIRWISE };
 
+/* Which parts of lines are kept: those inside contours or, if `invert`, those outside. Parts along the boundary count as inside if
+   `boundary_included`. */
+struct ClipRule {
+    bool invert = false;
+    bool boundary_included = false;
+};
+
+/* A part of a line: the number of the line, from 0, and the points of the part, in the direction of the line. */
+struct LinePart {
+    std::size_t line;
+    std::vector<Point> points;
+};
+
 /* Whether points at which a contour goes straight on are in results. */
 enum class Collinear { Keep, Drop };
 
@@ -216,17 +229,22 @@ struct Numbers {
     }
 };
 
+/* The points from an index to before another. */
+inline std::vector<Point> points(const std::int32_t *xy, std::size_t first, std::size_t end)
+{
+    std::vector<Point> made;
+    made.reserve(end - first);
+    for (std::size_t at = first; at < end; at++)
+        made.emplace_back(xy[2 * at], xy[2 * at + 1]);
+    return made;
+}
+
 inline std::vector<Contour> contours(const fadrinzo_result &found, std::size_t first, std::size_t end)
 {
     std::vector<Contour> made;
     made.reserve(end - first);
-    for (std::size_t i = first; i < end; i++) {
-        Contour contour;
-        contour.reserve(found.contour_starts[i + 1] - found.contour_starts[i]);
-        for (std::size_t at = found.contour_starts[i]; at < found.contour_starts[i + 1]; at++)
-            contour.emplace_back(found.xy[2 * at], found.xy[2 * at + 1]);
-        made.push_back(std::move(contour));
-    }
+    for (std::size_t i = first; i < end; i++)
+        made.push_back(points(found.xy, found.contour_starts[i], found.contour_starts[i + 1]));
     return made;
 }
 
@@ -417,6 +435,29 @@ public:
             made.push_back({{it.ax, it.ay}, {it.bx, it.by}, it.subject, it.clip});
         }
         return made;
+    }
+
+    /* The parts of lines that a clip rule keeps, inside the contours of the subject or outside, line by line and in order along them. A line is
+       a list of points, each joined to the next one. Contours and the result stay. */
+    template <class Lines, std::enable_if_t<detail::is_rings<Lines>, int> = 0>
+    std::vector<LinePart> clip_lines(const Lines &lines, ClipRule clip_rule, FillRule fill_rule, Rounding rounding = Rounding::SnapRounding)
+    {
+        detail::Numbers given(lines);
+        detail::check(fadrinzo_clip_lines(handle(), given.xy.data(), given.lengths.data(), given.lengths.size(), clip_rule.invert,
+                                          clip_rule.boundary_included, static_cast<int>(fill_rule), static_cast<int>(rounding)));
+        fadrinzo_parts found = fadrinzo_get_parts(handle());
+        std::vector<LinePart> made;
+        made.reserve(found.count);
+        for (std::size_t i = 0; i < found.count; i++)
+            made.push_back({found.lines[i], detail::points(found.xy, found.starts[i], found.starts[i + 1])});
+        return made;
+    }
+    template <class Lines, std::enable_if_t<!detail::is_rings<Lines>, int> = 0>
+    std::vector<LinePart> clip_lines(const Lines &, ClipRule, FillRule, Rounding = Rounding::SnapRounding) = delete;
+    std::vector<LinePart> clip_lines(const std::vector<std::vector<Point>> &lines, ClipRule clip_rule, FillRule fill_rule,
+                                     Rounding rounding = Rounding::SnapRounding)
+    {
+        return clip_lines<std::vector<std::vector<Point>>>(lines, clip_rule, fill_rule, rounding);
     }
 
     /* The result of the last overlay in the memory of the library, without a copy. */

@@ -101,6 +101,17 @@ static fadrinzo_status split(fadrinzo *overlay)
     return FADRINZO_OK;
 }
 
+static fadrinzo_status clip_lines(fadrinzo *overlay)
+{
+    static const int32_t lines[] = {-5, 6, 6, 6, 6, 20, 1, 1, 11, 2};
+    static const size_t lengths[] = {3, 2};
+    fadrinzo_status status = fadrinzo_clip_lines(overlay, lines, lengths, 2, 0, 0, FADRINZO_FILL_NON_ZERO, FADRINZO_SNAP_ROUNDING);
+    fadrinzo_parts found = fadrinzo_get_parts(overlay);
+    /* the hole is from 3 to 9 and from 4 to 8 */
+    assert(status ? !found.xy && !found.starts && !found.lines && !found.count : found.count == 3 && found.lines[2] == 1);
+    return status;
+}
+
 typedef fadrinzo_status call(fadrinzo *overlay);
 
 static fadrinzo *full(void)
@@ -158,6 +169,7 @@ int main(void)
     static call *const calls[] = {overlay_contours, overlay_shapes, by_rules, arranged, in_tile};
     refused += try_each(add, 0);
     refused += try_each(split, 0);
+    refused += try_each(clip_lines, 0);
     for (size_t i = 0; i < sizeof calls / sizeof *calls; i++)
         refused += try_each(calls[i], 1);
     assert(refused > 200 && growths > refused);

@@ -773,6 +773,139 @@ static void check_split_refusals(void)
     fadrinzo_free(overlay);
 }
 
+/* A square of ten by ten. */
+static const int32_t ten[8] = {0, 0, 10, 0, 10, 10, 0, 10};
+
+/* Lines, one after another, and which parts of them lie inside the square or outside: found by hand. */
+typedef struct {
+    size_t lines;
+    size_t lengths[5];
+    int32_t xy[20];
+    int invert;
+    int boundary_included;
+    size_t count;
+    size_t of_line[5];
+    /* where parts start, and where the last one ends */
+    size_t starts[6];
+    int32_t points[20];
+} clip_by_hand;
+
+static const clip_by_hand by_hand[] = {
+    /* across and down, in the direction of each line; two equal points are no step, and one point or none no line */
+    {5, {2, 2, 4, 1, 0}, {20, 5, -5, 5, 5, 20, 5, -20, 2, 2, 4, 2, 4, 2, 4, 30, 1, 1}, 0, 0,
+     3, {0, 1, 2}, {0, 2, 4, 7}, {10, 5, 0, 5, 5, 10, 5, 0, 2, 2, 4, 2, 4, 10}},
+    {5, {2, 2, 4, 1, 0}, {20, 5, -5, 5, 5, 20, 5, -20, 2, 2, 4, 2, 4, 2, 4, 30, 1, 1}, 1, 0,
+     5, {0, 0, 1, 1, 2}, {0, 2, 4, 6, 8, 10}, {20, 5, 10, 5, 0, 5, -5, 5, 5, 20, 5, 10, 5, 0, 5, -20, 4, 10, 4, 30}},
+    /* the line leaves the square between two parts, and comes back to the point at which it left */
+    {1, {5}, {5, 5, 12, 5, 12, 9, 12, 5, 2, 5}, 0, 0, 2, {0, 0}, {0, 2, 4}, {5, 5, 10, 5, 10, 5, 2, 5}},
+    {1, {5}, {5, 5, 12, 5, 12, 9, 12, 5, 2, 5}, 1, 0, 1, {0}, {0, 5}, {10, 5, 12, 5, 12, 9, 12, 5, 10, 5}},
+    {1, {3}, {5, 5, 15, 5, 5, 5}, 0, 0, 2, {0, 0}, {0, 2, 4}, {5, 5, 10, 5, 10, 5, 5, 5}},
+    {1, {3}, {15, 5, 5, 5, 15, 5}, 1, 0, 2, {0, 0}, {0, 2, 4}, {15, 5, 10, 5, 10, 5, 15, 5}},
+    /* within the square a turn is no end */
+    {1, {3}, {5, 5, 8, 5, 5, 5}, 0, 0, 1, {0}, {0, 3}, {5, 5, 8, 5, 5, 5}},
+    /* along the boundary */
+    {1, {3}, {0, 2, 0, 8, -3, 8}, 0, 0, 0, {0}, {0}, {0}},
+    {1, {3}, {0, 2, 0, 8, -3, 8}, 0, 1, 1, {0}, {0, 2}, {0, 2, 0, 8}},
+    {1, {3}, {0, 2, 0, 8, -3, 8}, 1, 1, 1, {0}, {0, 2}, {0, 8, -3, 8}},
+    {1, {3}, {0, 2, 0, 8, -3, 8}, 1, 0, 1, {0}, {0, 3}, {0, 2, 0, 8, -3, 8}},
+    /* lines that cross have no point there; those that overlap have a part each */
+    {3, {2, 2, 2}, {1, 5, 9, 5, 5, 1, 5, 9, 9, 5, 3, 5}, 0, 0, 3, {0, 1, 2}, {0, 2, 4, 6}, {1, 5, 9, 5, 5, 1, 5, 9, 9, 5, 3, 5}},
+    /* nothing at all */
+    {0, {0}, {0}, 1, 1, 0, {0}, {0}, {0}},
+};
+
+static void check_parts(const clip_by_hand *row, fadrinzo_parts found, size_t index)
+{
+    CHECK(found.count == row->count && found.points == row->starts[row->count], "row %zu: %zu parts", index, found.count);
+    CHECK(!memcmp(found.starts, row->starts, (row->count + 1) * sizeof *found.starts), "row %zu", index);
+    CHECK(!memcmp(found.lines, row->of_line, row->count * sizeof *found.lines), "row %zu", index);
+    CHECK(!memcmp(found.xy, row->points, 2 * found.points * sizeof *found.xy), "row %zu", index);
+}
+
+static void check_clips(void)
+{
+    fadrinzo *overlay = fadrinzo_new();
+    CHECK(overlay, "memory");
+    CHECK(fadrinzo_add_contour(overlay, FADRINZO_SUBJECT, ten, 4) == FADRINZO_OK, "a square");
+    /* a clip counts for nothing */
+    CHECK(fadrinzo_add_contour(overlay, FADRINZO_CLIP, squares[2].xy, 4) == FADRINZO_OK && fadrinzo_overlay(overlay, FADRINZO_RULE_CLIP, 1) == FADRINZO_OK, "a clip");
+    for (size_t i = 0; i < sizeof by_hand / sizeof *by_hand; i++)
+        for (int rounding = FADRINZO_SNAP_ROUNDING; rounding <= FADRINZO_PAIRWISE; rounding++)
+            for (int fill_rule = 0; fill_rule < FADRINZO_FILL_NEGATIVE; fill_rule++) {
+                const clip_by_hand *row = &by_hand[i];
+                CHECK(fadrinzo_clip_lines(overlay, row->xy, row->lengths, row->lines, row->invert, row->boundary_included, fill_rule, rounding)
+                          == FADRINZO_OK, "row %zu", i);
+                check_parts(row, fadrinzo_get_parts(overlay), i);
+            }
+    static const int32_t inside[4] = {2, 2, 3, 3};
+    static const size_t two[1] = {2};
+    CHECK(fadrinzo_clip_lines(overlay, inside, two, 1, 0, 0, FADRINZO_FILL_NEGATIVE, 0) == FADRINZO_OK && !fadrinzo_get_parts(overlay).count, "negative");
+    CHECK(fadrinzo_clip_lines(overlay, inside, two, 1, 7, 0, FADRINZO_FILL_NEGATIVE, 0) == FADRINZO_OK && fadrinzo_get_parts(overlay).count == 1, "outside");
+    CHECK(fadrinzo_get(overlay).contours == 1 && fadrinzo_get(overlay).xy[0] >= 8, "a clip of lines leaves the last overlay");
+    fadrinzo_free(overlay);
+}
+
+/* Steps of a line whose ends are as far apart as can be, through two columns, on both sides of their middles. */
+static void check_far_clips(void)
+{
+    enum { LOW = FADRINZO_MIN_COORD, HIGH = FADRINZO_MAX_COORD };
+    static const int32_t left[] = {-110, LOW, -90, LOW, -90, HIGH, -110, HIGH}, right[] = {100, LOW, 120, LOW, 120, HIGH, 100, HIGH};
+    static const int32_t line[] = {HIGH, 7, LOW, 7, LOW, HIGH, HIGH, HIGH, LOW, LOW};
+    /* along the tops of the columns, which count as inside, and along the diagonal on its way back */
+    static const int32_t wanted[] = {120, 7, 100, 7, -90, 7, -110, 7, -110, HIGH, -90, HIGH, 100, HIGH, 120, HIGH, 120, 120, 100, 100, -90, -90, -110, -110};
+    static const size_t length[1] = {5};
+    fadrinzo *overlay = fadrinzo_new();
+    CHECK(overlay, "memory");
+    CHECK(fadrinzo_add_contour(overlay, 0, left, 4) == FADRINZO_OK && fadrinzo_add_contour(overlay, 0, right, 4) == FADRINZO_OK, "columns");
+    CHECK(fadrinzo_clip_lines(overlay, line, length, 1, 0, 1, 1, 0) == FADRINZO_OK, "a line");
+    fadrinzo_parts found = fadrinzo_get_parts(overlay);
+    CHECK(found.count == 6 && found.points == 12 && !memcmp(found.xy, wanted, sizeof wanted), "%zu parts", found.count);
+    fadrinzo_free(overlay);
+}
+
+/* Points at which sides meet a line stay, and sides far beside it wind around it all the same. */
+static void check_sides_of_clips(void)
+{
+    static const int32_t over[8] = {5, -5, 15, -5, 15, 15, 5, 15}, line[4] = {1, 5, 14, 5}, wanted[8] = {1, 5, 5, 5, 10, 5, 14, 5};
+    static const int32_t far[10] = {-90000, -90000, 0, -95000, 90000, -90000, 90000, 90000, -90000, 90000};
+    static const size_t length[1] = {2};
+    fadrinzo *overlay = fadrinzo_new();
+    CHECK(overlay, "memory");
+    CHECK(fadrinzo_add_contour(overlay, 0, ten, 4) == FADRINZO_OK && fadrinzo_add_contour(overlay, 0, over, 4) == FADRINZO_OK, "squares");
+    CHECK(fadrinzo_clip_lines(overlay, line, length, 1, 0, 0, 1, 0) == FADRINZO_OK, "a line");
+    fadrinzo_parts found = fadrinzo_get_parts(overlay);
+    CHECK(found.count == 1 && found.points == 4 && !memcmp(found.xy, wanted, sizeof wanted), "%zu points", found.points);
+    CHECK(fadrinzo_clear(overlay) == FADRINZO_OK && fadrinzo_get_parts(overlay).count == 1, "cleared");
+    CHECK(fadrinzo_add_contour(overlay, 0, far, 5) == FADRINZO_OK && fadrinzo_clip_lines(overlay, line, length, 1, 0, 0, 1, 0) == FADRINZO_OK, "far");
+    found = fadrinzo_get_parts(overlay);
+    CHECK(found.count == 1 && found.points == 2 && !memcmp(found.xy, line, sizeof line), "%zu parts", found.count);
+    fadrinzo_free(overlay);
+}
+
+static void check_clip_refusals(void)
+{
+    fadrinzo *overlay = fadrinzo_new();
+    CHECK(overlay, "memory");
+    static const int32_t line[4] = {1, 1, 9, 9}, far[4] = {1, 1, 9, FADRINZO_MAX_COORD + 1};
+    static const size_t length[1] = {2}, none[2] = {0, 0};
+    CHECK(fadrinzo_add_contour(overlay, 0, ten, 4) == FADRINZO_OK, "a square");
+    static const int wrong[] = {-1, 4, 256, INT32_MAX};
+    for (size_t i = 0; i < sizeof wrong / sizeof *wrong; i++)
+        for (int of = 0; of < 2; of++) {
+            CHECK(fadrinzo_clip_lines(overlay, line, length, 1, 0, 0, 1, 0) == FADRINZO_OK && fadrinzo_get_parts(overlay).count == 1, "a line");
+            CHECK(fadrinzo_clip_lines(overlay, line, length, 1, 0, 0, of ? wrong[i] : 1, of ? 0 : wrong[i]) == FADRINZO_BAD_ARGUMENT, "code %d", wrong[i]);
+            CHECK(!fadrinzo_get_parts(overlay).count && !fadrinzo_get_parts(overlay).xy, "code %d", wrong[i]);
+        }
+    CHECK(fadrinzo_clip_lines(overlay, line, length, 1, 0, 0, 1, 2) == FADRINZO_BAD_ARGUMENT, "rounding");
+    CHECK(fadrinzo_clip_lines(overlay, far, length, 1, 0, 0, 1, 0) == FADRINZO_POINT_OUT_OF_RANGE && !fadrinzo_get_parts(overlay).starts, "range");
+    CHECK(fadrinzo_clip_lines(overlay, NULL, length, 1, 0, 0, 1, 0) == FADRINZO_BAD_ARGUMENT, "null");
+    CHECK(fadrinzo_clip_lines(overlay, line, NULL, 1, 0, 0, 1, 0) == FADRINZO_BAD_ARGUMENT, "null");
+    CHECK(fadrinzo_clip_lines(NULL, line, length, 1, 0, 0, 1, 0) == FADRINZO_BAD_ARGUMENT && !fadrinzo_get_parts(NULL).count, "null");
+    CHECK(fadrinzo_clip_lines(overlay, NULL, none, 2, 0, 0, 1, 0) == FADRINZO_OK && !fadrinzo_get_parts(overlay).count, "no points");
+    CHECK(fadrinzo_clip_lines(overlay, NULL, NULL, 0, 0, 0, 1, 0) == FADRINZO_OK && fadrinzo_get_parts(overlay).starts[0] == 0, "no lines");
+    fadrinzo_free(overlay);
+}
+
 static void check_texts(void)
 {
     static const int codes[] = {FADRINZO_OK, FADRINZO_NO_MEMORY, FADRINZO_COUNT_OUT_OF_RANGE, FADRINZO_POINT_OUT_OF_RANGE, FADRINZO_BAD_ARGUMENT,
@@ -798,6 +931,10 @@ int main(void)
     check_refusals();
     check_splits();
     check_split_refusals();
+    check_clips();
+    check_far_clips();
+    check_sides_of_clips();
+    check_clip_refusals();
     check_texts();
     puts("all as the definitions say");
     return 0;

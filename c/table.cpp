@@ -40,6 +40,9 @@ constexpr bool takes_contours<T, std::void_t<decltype(std::declval<Overlay &>().
 template <class T, class = void> constexpr bool takes_polygon = false;
 template <class T>
 constexpr bool takes_polygon<T, std::void_t<decltype(std::declval<Overlay &>().add_polygon(ShapeType::Clip, std::declval<T>()))>> = true;
+template <class T, class = void> constexpr bool takes_lines = false;
+template <class T>
+constexpr bool takes_lines<T, std::void_t<decltype(std::declval<Overlay &>().clip_lines(std::declval<T>(), ClipRule(), FillRule::NonZero))>> = true;
 template <class T, class = void> constexpr bool takes_numbers = false;
 template <class T>
 constexpr bool takes_numbers<T, std::void_t<decltype(std::declval<Overlay &>().add_contour(ShapeType::Clip, std::declval<T *>(), 4))>> = true;
@@ -293,6 +296,27 @@ void check_split()
     CHECK(overlay.split({}).empty());
 }
 
+/* Lines through a square of ten by ten, in the direction of each: points of any type, and parts with the numbers of their lines. */
+void check_clip_lines()
+{
+    Overlay overlay;
+    overlay.add_contour(ShapeType::Subject, rectangle(0, 0, 10, 10));
+    const std::vector<std::vector<Point>> lines = {{{20, 5}, {-5, 5}}, {{1, 1}}, {{2, 2}, {4, 2}, {4, 30}}};
+    for (Rounding rounding : {Rounding::SnapRounding, Rounding::Pairwise}) {
+        const auto inside = overlay.clip_lines(lines, {}, FillRule::NonZero, rounding);
+        CHECK(inside.size() == 2 && inside[0].line == 0 && inside[1].line == 2);
+        CHECK(inside[0].points == std::vector<Point>{{10, 5}, {0, 5}} && inside[1].points == std::vector<Point>{{2, 2}, {4, 2}, {4, 10}});
+    }
+    const auto outside = overlay.clip_lines(lines, ClipRule{true, false}, FillRule::NonZero);
+    CHECK(outside.size() == 3 && outside[1].line == 0 && outside[1].points == std::vector<Point>{{0, 5}, {-5, 5}});
+    CHECK(outside[2].line == 2 && outside[2].points == std::vector<Point>{{4, 10}, {4, 30}});
+    const std::vector<std::vector<Whole>> along = {{{0, 2}, {0, 8}}};
+    CHECK(overlay.clip_lines(along, {}, FillRule::NonZero).empty() && overlay.clip_lines(along, {false, true}, FillRule::NonZero).size() == 1);
+    CHECK(overlay.clip_lines({{{0, 2}, {0, 8}}}, {true, false}, FillRule::NonZero).size() == 1);
+    CHECK(overlay.clip_lines(along, {true, true}, FillRule::NonZero).empty() && overlay.clip_lines({}, {}, FillRule::NonZero).empty());
+    CHECK(!takes_lines<std::vector<std::vector<Wide>>> && takes_lines<std::vector<std::vector<Whole>>>);
+}
+
 /* The status of what a call throws, with its sentence. */
 template <class Call> int status_of(Call call)
 {
@@ -330,6 +354,8 @@ void check_refusals()
     CHECK(status_of([&] { overlay.region_relation(0, 0, Relation::Touch); }) == FADRINZO_BAD_ARGUMENT);
     CHECK(status_of([&] { overlay.region_relate(0, 0); }) == FADRINZO_BAD_ARGUMENT);
     CHECK(status_of([&] { overlay.split({{{1, 1}, {1, 1}}}); }) == FADRINZO_BAD_ARGUMENT);
+    CHECK(status_of([&] { overlay.clip_lines({{{1, 1}, {1, FADRINZO_MAX_COORD + 1}}}, {}, fill_rule); }) == FADRINZO_POINT_OUT_OF_RANGE);
+    CHECK(status_of([&] { overlay.clip_lines({}, {}, fill_rule, static_cast<Rounding>(9)); }) == FADRINZO_BAD_ARGUMENT);
     CHECK(status_of([] { detail::check(FADRINZO_NO_MEMORY); }) == FADRINZO_NO_MEMORY);
     CHECK(status_of([] { detail::check(FADRINZO_OK); }) == FADRINZO_OK);
     // what was refused has changed nothing
@@ -381,6 +407,7 @@ int main()
     check_location();
     check_relations();
     check_split();
+    check_clip_lines();
     check_refusals();
     check_tile();
     check_moves();

@@ -21,6 +21,7 @@ ROOT = pathlib.Path(__file__).resolve().parent.parent
 ARCHIVE = ROOT / "crates/overlay_c/out/libfadrinzo_exports.a"
 FLAGS = ["-std=c11", "-O1", "-UNDEBUG"]
 C, HEADER, PYTHON, WKT, RELATED = "c/fadrinzo.c", "c/fadrinzo.hpp", "python/fadrinzo/__init__.py", "python/fadrinzo/wkt.py", "python/fadrinzo/related.py"
+CLIP = "python/fadrinzo/clip.py"
 RUST = "rust/src/"
 
 
@@ -60,6 +61,14 @@ PLANTS = [
     Plant("numbers of regions begin at one", C, "*number = overlay->regions++;", "*number = ++overlay->regions;"),
     Plant("regions are exchanged", C, "&settings, first, second, (uint8_t)relation", "&settings, second, first, (uint8_t)relation"),
     Plant("contours of many are turned", C, "lengths, contours, add_as_given);", "lengths, contours, add_turned);"),
+    Plant("parts go on where the line left", C, " && is_same_point(last->end, from->b);", ";"),
+    Plant("points at which contours meet lines are left out", C, "&& !is_corner(it, next->start))", ")"),
+    Plant("points at which lines meet stay", C, "        if (segment->subj) {", "        if (segment) {"),
+    Plant("parts outside are those along the boundary", C, "invert != 0, boundary_included != 0)", "boundary_included != 0, invert != 0)"),
+    Plant("sums along far steps leave their range", C, ".half = half_of(of_p) + half_of(of_q) + rests / 2,", ".half = (int64_t)((uint64_t)of_p + (uint64_t)of_q),"),
+    Plant("sides far beside a line wind no more", C, "if (!(it->shared & sides)) {", "if (!(it->shared | sides)) {"),
+    Plant("a refused clip of lines leaves the parts before", C, "    drop_parts(overlay);\n    if ((!lengths", "    if ((!lengths"),
+    Plant("fields of a clip rule are exchanged", HEADER, "clip_rule.invert,\n                                          clip_rule.boundary_included,", "clip_rule.boundary_included,\n                                          clip_rule.invert,"),
     Plant("wide coordinates are cut", HEADER, "::digits <= 31;", "::digits <= 63;"),
     Plant("an outer boundary is left out", HEADER, "contours(found, found.shape_starts[i], found", "contours(found, found.shape_starts[i] + 1, found"),
     Plant("bits of a table are exchanged", HEADER, "2 * subject + 4 * clip", "4 * subject + 2 * clip"),
@@ -78,6 +87,8 @@ PLANTS = [
     Plant("a coordinate at the end of the range is refused", PYTHON, "if not MIN_COORD <= number <= MAX_COORD:", "if not MIN_COORD < number < MAX_COORD:"),
     Plant("an arrangement has the reach of the last result", PYTHON, "_check(_calls().fadrinzo_arranged(self._handle, NOTHING, 0))", "pass"),
     Plant("an arrangement has always moved edges", PYTHON, "return _calls().fadrinzo_get(self._handle).reach", "return 1"),
+    Plant("lines have the numbers of parts", CLIP, "(found.lines[index], ", "(index, ", "test_clip"),
+    Plant("a closed line is opened", CLIP, "points = base._points(line, where)", "points = base._points(line, where)\n        points = points[:-1] if len(points) > 1 and points[0] == points[-1] else points", "test_clip"),
     Plant("holes of WKT run as they are written", WKT, "points[::-1] if (area < 0) == (index == 0) else points", "points[::-1] if area < 0 and index == 0 else points", "test_wkt.Overlays"),
     Plant("inverse difference has the code of difference", RUST + "rules.rs", "OverlayRule::InverseDifference => 5,", "OverlayRule::InverseDifference => 4,"),
     Plant("a table loses its last bit", RUST + "rules.rs", "16 + table.bits,", "16 + table.bits % 8,"),

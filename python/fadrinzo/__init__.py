@@ -22,9 +22,9 @@ import typing
 import weakref
 
 __version__ = "0.2.0"
-__all__ = ["Arrangement", "MAX_COORD", "MIN_COORD", "NotExactError", "OverlayError", "covers", "interiors_meet", "is_disjoint", "is_within",
-           "locate", "overlay", "overlay_by_rules", "overlay_polygons", "relate", "relate_pattern", "related_pairs", "same_region", "split",
-           "touches"]
+__all__ = ["Arrangement", "MAX_COORD", "MIN_COORD", "NotExactError", "OverlayError", "clip_lines", "covers", "interiors_meet", "is_disjoint",
+           "is_within", "locate", "overlay", "overlay_by_rules", "overlay_polygons", "relate", "relate_pattern", "related_pairs", "same_region",
+           "split", "touches"]
 
 MIN_COORD, MAX_COORD = -(1 << 30), (1 << 30) - 1
 
@@ -104,6 +104,16 @@ def _path():
     return os.environ.get("FADRINZO_SO") or (beside if beside.is_file() else here.parents[2] / "c/out/libfadrinzo.so")
 
 
+class _Parts(ctypes.Structure):
+    _fields_ = [
+        ("xy", ctypes.POINTER(ctypes.c_int32)),
+        ("starts", ctypes.POINTER(ctypes.c_size_t)),
+        ("lines", ctypes.POINTER(ctypes.c_size_t)),
+        ("points", ctypes.c_size_t),
+        ("count", ctypes.c_size_t),
+    ]
+
+
 def _load():
     """Loads the library, and declares its calls."""
     path = _path()
@@ -136,6 +146,8 @@ def _load():
         "get": (_Result, [handle]),
         "split": (number, [handle, ctypes.POINTER(_Edge), ctypes.c_size_t, number]),
         "get_edges": (_Edges, [handle]),
+        "clip_lines": (number, [handle, points, ctypes.POINTER(ctypes.c_size_t), ctypes.c_size_t, number, number, number, number]),
+        "get_parts": (_Parts, [handle]),
     }
     for name, (result, arguments) in calls.items():
         call = getattr(library, f"fadrinzo_{name}")
@@ -229,20 +241,30 @@ def _point(point, where):
     return found
 
 
-def _numbers(contour, scale, where):
-    """The coordinates of a contour, without a last point that repeats the first."""
+def _points(given, where):
+    """The points of a contour or of a line."""
     try:
-        given = list(contour)
+        listed = list(given)
     except TypeError:
-        raise TypeError(f"{where}: {_shown(contour)} is no list of points") from None
-    points = [_point(point, f"{where}, point {index}") for index, point in enumerate(given)]
-    if len(points) > 1 and points[0] == points[-1]:
-        points.pop()
+        raise TypeError(f"{where}: {_shown(given)} is no list of points") from None
+    return [_point(point, f"{where}, point {index}") for index, point in enumerate(listed)]
+
+
+def _flat(points, scale, where):
+    """The coordinates of points, x and y after x and y."""
     found = []
     for index, point in enumerate(points):
         at = f"{where}, point {index}"
         found += [_coordinate(point[0], scale, f"{at}: x"), _coordinate(point[1], scale, f"{at}: y")]
     return found
+
+
+def _numbers(contour, scale, where):
+    """The coordinates of a contour, without a last point that repeats the first."""
+    points = _points(contour, where)
+    if len(points) > 1 and points[0] == points[-1]:
+        points.pop()
+    return _flat(points, scale, where)
 
 
 def _check(status):
@@ -680,4 +702,5 @@ def relate_pattern(subject: Contours, clip: Contours, pattern: str, fill: Fill =
     return all(letter in ("*", found) for letter, found in zip(pattern, relate(subject, clip, fill, scale)))
 
 
+from fadrinzo.clip import clip_lines  # noqa: E402  (it takes names from above)
 from fadrinzo.related import related_pairs  # noqa: E402  (it takes names from above)

@@ -1,9 +1,11 @@
 """Tests of related pairs, against the relation of each pair."""
+import doctest
 import itertools
 import random
 import unittest
 
 import fadrinzo
+from fadrinzo import related
 
 PREDICATES = {
     "share-point": lambda one, other: not fadrinzo.is_disjoint(one, other),
@@ -14,6 +16,11 @@ PREDICATES = {
     "same-region": lambda one, other: fadrinzo.interiors_meet(one, other) and fadrinzo.same_region(one, other),
 }
 BOW = [[(0, 0), (1, 1), (1, 0), (0, 1)]]
+
+
+def load_tests(loader, tests, pattern):
+    tests.addTests(doctest.DocTestSuite(related))
+    return tests
 
 
 def square(low, high):
