@@ -337,6 +337,25 @@ fn long_contours() {
     assert!(seen.far > 100, "{}", seen.far);
 }
 
+/// A run of points beside a tile counts there by its first point and its last one, in their order.
+#[test]
+fn a_run_beside_a_tile() {
+    let left = (0..511).map(|step| IntPoint::new(-1_000, 3 * step - 1_000)).chain([IntPoint::new(-500, 600)]);
+    let right = (0..512).map(|step| IntPoint::new(1_000, 500 - 3 * step));
+    let case = Case {
+        range: 1_100,
+        shapes: [vec![left.chain(right).collect()], Vec::new()],
+        lines: Some([vec![0], Vec::new()]),
+        count: 0,
+        rule: OverlayRule::Subject,
+        fill_rule: FillRule::NonZero,
+    };
+    let overlay = case.overlay(1);
+    let (tiles, shapes) = (overlay.tiles().unwrap(), overlay.overlay_shapes(case.rule, case.fill_rule).unwrap());
+    assert_eq!(tiles.len(), 2);
+    assert_eq!(in_order(&shapes), in_order(&joined_by_an_overlay(&case, &tiles)));
+}
+
 /// Contours without an area have no tiles and no overlay; those of one tile are overlaid as they are.
 #[test]
 fn few_tiles() {
