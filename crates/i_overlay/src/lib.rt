@@ -2,11 +2,12 @@
 // `overlay_core`, which is upstream's `core`; and in one call each the whole overlay, and lines cut by polygons.
 #![tactic(auto)]
 
-pub use overlay_base::{geom, num};
+pub use overlay_base::num;
 
 pub mod build;
 pub mod clip;
 mod clip_by;
+pub mod geom;
 pub mod line_numbers;
 mod number_lists;
 pub mod overlay;

@@ -1,8 +1,7 @@
 // Each order once, at segments of the narrow engine.
 
-use overlay_geometry::geom::end::End;
 use overlay_geometry::geom::point::IntPoint;
-use overlay_geometry::geom::v_segment::{VSegment, update_if_under};
+use overlay_geometry::geom::v_segment::VSegment;
 use std::cmp::Ordering;
 
 #[test]
@@ -36,32 +35,6 @@ fn one_segment_runs_under_another(rt: HostRuntime) {
 }
 
 #[test]
-fn the_lowest_of_some_segments_is_kept(rt: HostRuntime) {
-    let middle = VSegment {
-        a: IntPoint::new(0_i16, 0),
-        b: IntPoint::new(4, 0),
-    };
-    let high = VSegment {
-        a: IntPoint::new(1_i16, 1),
-        b: IntPoint::new(3, 1),
-    };
-    let low = VSegment {
-        a: IntPoint::new(2_i16, -1),
-        b: IntPoint::new(5, -1),
-    };
-    let mut best = None;
-    update_if_under(&mut best, middle);
-    let first = best;
-    update_if_under(&mut best, high);
-    let second = best;
-    update_if_under(&mut best, low);
-    assert_eq!(rt;
-        (first, second, best),
-        (Some(middle), Some(middle), Some(low))
-    );
-}
-
-#[test]
 fn angles_go_from_below_to_above(rt: HostRuntime) {
     let level = VSegment {
         a: IntPoint::new(0_i16, 0),
@@ -72,10 +45,4 @@ fn angles_go_from_below_to_above(rt: HostRuntime) {
         b: IntPoint::new(0, 4),
     };
     assert_eq!(rt; level.cmp_by_angle(&upright), Ordering::Less);
-}
-
-#[test]
-fn a_default_end_is_the_origin(rt: HostRuntime) {
-    let end: End<i16> = End::default();
-    assert_eq!(rt; (end.index, end.point.x, end.point.y), (0, 0, 0));
 }

@@ -18,6 +18,8 @@ mod string_graphs;
 #[cfg(test)]
 mod sweeps;
 #[cfg(test)]
+mod upstream_geom;
+#[cfg(test)]
 mod walks;
 #[cfg(test)]
 mod worked_lines;

@@ -1,11 +1,9 @@
 -- A segment of a sweep as a pair of points.
-use Rattle.std.specs.Prelude.{ℤ, if◌then◌else◌}
+use Rattle.std.specs.Prelude.{ℤ}
 use Rattle.overlay_geometry.specs.Points.{Pair}
 use Rattle.overlay_geometry.specs.PointOf.{point_of}
 use Rattle.overlay_geometry.specs.InRange.{IsPointInRange}
 use Rattle.overlay_geometry.specs.declared.geom.v_segment.VSegment.{VSegment}
-use Rattle.std.specs.Ordering.{is_lt}
-use Rattle.overlay_geometry.specs.Below.{under_segment_order}
 
 abbrev pub v_pair_of : {I : Type 0} → (I → ℤ) → VSegment I → Pair
 v_pair_of whole s = record { a = point_of whole s.a; b = point_of whole s.b }
@@ -14,7 +12,3 @@ v_pair_of whole s = record { a = point_of whole s.a; b = point_of whole s.b }
 pub record IsVSegmentInRange {I : Type 0} (whole : I → ℤ) (least greatest : I) (s : VSegment I) : Type 0 where
   pub a_in_range : IsPointInRange whole least greatest s.a
   pub b_in_range : IsPointInRange whole least greatest s.b
-
--- of two segments of a sweep the first, where it runs below the other, or else the other
-abbrev pub lower_of : {I : Type 0} → (I → ℤ) → VSegment I → VSegment I → VSegment I
-lower_of whole s t = if is_lt (under_segment_order (v_pair_of whole s) (v_pair_of whole t)) then s else t

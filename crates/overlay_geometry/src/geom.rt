@@ -1,6 +1,5 @@
 // Points and segments of the plane.
 
-pub mod end;
 pub mod id_point;
 pub mod laws;
 pub mod line_range;

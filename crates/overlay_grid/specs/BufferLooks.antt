@@ -1,6 +1,6 @@
 -- What a scan of the columns of a buffer compares.
 use Rattle.std.specs.Prelude.{ℕ}
-use Rattle.overlay_grid.specs.ColumnLooks.{looks_of_groups, all_twos_in_height}
+use Rattle.overlay_grid.specs.ColumnLooks.{looks_of_groups}
 use Rattle.overlay_grid.specs.Grid.{group_count}
 use Rattle.overlay_grid.specs.GroupsOf.{group_of, grid_of}
 use Rattle.overlay_grid.specs.declared.split.axis.Axis.{Axis}
@@ -9,7 +9,3 @@ use Rattle.overlay_grid.specs.declared.split.fragment_buffer.FragmentBuffer.{Fra
 -- the comparisons that its columns take along an axis
 abbrev pub buffer_looks : {I : Type 0} {w : _} {o : _} {e : _} {p : _} → Axis → FragmentBuffer I w o e p → ℕ
 buffer_looks axis buffer = looks_of_groups axis (group_of buffer) (group_count (grid_of buffer))
-
--- how many pairs of one column share a height
-abbrev pub buffer_twos : {I : Type 0} {w : _} {o : _} {e : _} {p : _} → FragmentBuffer I w o e p → ℕ
-buffer_twos buffer = all_twos_in_height (group_of buffer) (group_count (grid_of buffer))

@@ -5,7 +5,6 @@ ghost use Rattle.overlay_grid.specs.Grid.{fragments};
 use crate::usable::is_in_range;
 use overlay_geometry::geom::point::IntPoint;
 use overlay_geometry::geom::x_segment::XSegment;
-use overlay_grid::split::axis::Axis;
 use overlay_grid::split::fragment_buffer::*;
 use overlay_grid::split::grid_layout::GridLayout;
 use std::process::Abort;
@@ -105,57 +104,4 @@ fn layouts(rt: HostRuntime) {
     let layout = GridLayout::new(&segments, 4).expect(&rt, "wide enough");
     assert!(rt; layout.column_count() > 1);
     assert!(rt; layout.pos(1) == 32);
-}
-
-/// Whether the fragments of segments in columns of width 32 are sorted from left to right.
-fn is_sorted_across(rt: &(impl Abort + AllocGlobal), lines: &[Line]) -> bool {
-    let layout = GridLayout::with_min_max(0, 127, 1).expect(rt, "wide enough");
-    let mut buffer = FragmentBuffer::new(rt.alloc(), layout).expect(rt, "memory");
-    for index in 0..lines.len() {
-        let segment = segment(lines[index]);
-        assert!(rt; 0 <= segment.a.x);
-        assert!(rt; segment.a.x <= segment.b.x);
-        assert!(rt; segment.b.x <= 127);
-        assert!(rt; is_in_range(&segment));
-        buffer.add_segment(index, segment).expect(rt, "memory");
-    }
-    match buffer.sort().expect(rt, "memory") {
-        Axis::X => true,
-        Axis::Y => false,
-    }
-}
-
-/// This many upright lines beside one another.
-fn beside(rt: &(impl Abort + AllocGlobal), count: i32) -> Vec<Line> {
-    let mut lines = Vec::new(rt.alloc());
-    for x in 0..count {
-        lines.push(((x, 0), (x, 9))).expect(rt, "memory");
-    }
-    lines
-}
-
-/// Lines above one another.
-fn above(rt: &(impl Abort + AllocGlobal)) -> Vec<Line> {
-    let mut lines = Vec::new(rt.alloc());
-    for y in 0..40 {
-        lines.push(((0, y), (40, y))).expect(rt, "memory");
-    }
-    lines
-}
-
-/// Lines of many slopes from one point.
-fn across(rt: &(impl Abort + AllocGlobal)) -> Vec<Line> {
-    let mut lines = Vec::new(rt.alloc());
-    for y in 0..40 {
-        lines.push(((0, 0), (40, y))).expect(rt, "memory");
-    }
-    lines
-}
-
-#[test]
-fn columns_are_sorted_along_the_axis_of_fewer_looks(rt: HostRuntime) {
-    assert!(rt; is_sorted_across(&rt, &beside(&rt, 40)));
-    assert!(rt; !is_sorted_across(&rt, &above(&rt)));
-    assert!(rt; !is_sorted_across(&rt, &across(&rt)));
-    assert!(rt; !is_sorted_across(&rt, &beside(&rt, 8)));
 }

@@ -1,4 +1,5 @@
 pub mod LiveOf
+pub mod LowerOf
 pub mod ScanTrees
 pub mod SearchCosts
 pub mod TreeShapes

@@ -3,3 +3,4 @@
 #![tactic(auto)]
 
 pub mod build;
+pub mod geom;

@@ -1,6 +1,6 @@
 // How a split and a sweep go about their work, and how far a pass snaps. Upstream: `core::solver`.
 ghost use Rattle.std.specs.Prelude.{◌≡◌, length};
-ghost use Rattle.overlay_base.specs.Choices.{list_splits, grid_splits, list_fills};
+ghost use Rattle.overlay_base.specs.Choices.{list_splits, grid_splits};
 ghost use Rattle.overlay_base.specs.Radius.{exponent_of, step_of};
 
 use crate::overlay_core::snap_radius::SnapRadius;
@@ -123,8 +123,6 @@ impl Solver {
 
     const MIN_FRAGMENT_COUNT: usize = 16_000;
 
-    const MAX_FILL_LIST_COUNT: usize = 8_000;
-
     /// The strategy `Auto` with this precision.
     pub fn with_precision(precision: Precision) -> Self
         ensures strategy { result.strategy ≡ Strategy.Auto }
@@ -176,21 +174,6 @@ impl Solver {
         ensures { result ≡ grid_splits self.now.strategy (length segments.now) }
     {
         segments.len() > Self::MIN_FRAGMENT_COUNT || self.strategy == Strategy::Frag
-    }
-
-    /// Whether these segments are few enough for a list of the live ones among them: under `List`, and under `Auto`
-    /// where they are fewer than 8,000.
-    pub fn is_list_fill<C: WindingCount, I: OverlayInt, D>(
-        &self,
-        segments: &[Segment<C, I, D>],
-    ) -> bool
-        ensures { result ≡ list_fills self.now.strategy (length segments.now) }
-    {
-        match self.strategy {
-            Strategy::List => true,
-            Strategy::Tree | Strategy::Frag => false,
-            Strategy::Auto => segments.len() < Self::MAX_FILL_LIST_COUNT,
-        }
     }
 }
 

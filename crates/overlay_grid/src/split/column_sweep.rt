@@ -33,9 +33,12 @@ use overlay_intersections::split::placing::Placing;
 use std::alloc::AllocError;
 use std::mem::swap;
 
-/// Finds the marks of a pass as `solver_fragment::find_marks` does, under the same conditions, of segments that are
-/// sorted, as by `sort_by_ab`. It goes through the columns from left to right, and holds the fragments of one at a time.
-/// The groups of `buffer` stay as they are.
+/// Finds the marks of a pass: the points at which each segment is to be split, each once, by rising index and then in
+/// order of points. Returns whether two segments cross at a point without whole coordinates, so that the pass rounds.
+///
+/// The segments have to be sorted, as by `sort_by_ab`, in range and inside the buffer's layout, and a squared radius at
+/// least 1. It goes through the columns from left to right, and holds the fragments of one at a time. The groups of
+/// `buffer` stay as they are; what `marks` held before is dropped.
 ///
 /// Returns `Fault::Memory` where a growth is refused; `marks` is of no use then.
 pub fn find_marks<C: WindingCount, I: OverlayInt, D: Copy>(

@@ -10,8 +10,7 @@ use crate::split::column_parts::SweepMemory;
 use crate::split::fragment::Fragment;
 use crate::split::fragment_memory::{FragmentMemory, clear_groups, empty_groups};
 use crate::split::grid_layout::GridLayout;
-use crate::split::group_sort::{SCAN_BUDGET_PER_FRAGMENT, SortMemory, sort_group};
-use crate::split::reach::{count_reached, reached_at_most};
+use crate::split::group_sort::{SortMemory, sort_group};
 use crate::split::rise::heights_at;
 use overlay_base::segm::fault::Fault;
 use overlay_geometry::geom::point::IntPoint;
@@ -28,8 +27,6 @@ pub struct FragmentBuffer<I: OverlayInt> {
     right_ends: Vec<I>,
     sort_memory: SortMemory<I>,
     pub(crate) sweep: SweepMemory<I>,
-    /// Whether a sort has found that a scan upward compares few fragments.
-    is_upward: bool,
     ghost columns: { length groups.items ≡ group_count (layout_of layout) },
 }
 
@@ -40,7 +37,6 @@ impl<I: OverlayInt> FragmentBuffer<I> {
     ghost use Rattle.overlay_geometry.specs.InRange.{IsPairInRange};
     ghost use Rattle.overlay_grid.specs.FragmentOf.{fragment_of, kept_in, IsSortedAlong};
     ghost use Rattle.overlay_grid.specs.steps.FragmentFinder.{heights_at};
-    ghost use Rattle.overlay_grid.specs.BufferLooks.{buffer_looks, buffer_twos};
     ghost use Rattle.overlay_grid.specs.GroupsOf.{group_of, groups_of, grid_of, AddsFragments};
 
     /// A buffer with one group for each column of a layout, all empty. Returns `Fault::Memory` where a growth is
@@ -79,7 +75,6 @@ impl<I: OverlayInt> FragmentBuffer<I> {
             right_ends,
             sort_memory,
             sweep,
-            is_upward: false,
         })
     }
 
@@ -92,7 +87,6 @@ impl<I: OverlayInt> FragmentBuffer<I> {
             right_ends,
             sort_memory,
             sweep,
-            is_upward: _,
         } = self;
         FragmentMemory {
             groups,
@@ -143,50 +137,6 @@ impl<I: OverlayInt> FragmentBuffer<I> {
         ensures empty { (column : ℕ) → group_of self.new column ≡ [] }
     {
         clear_groups(&mut self.groups);
-    }
-
-    /// Sorts every group by where the fragments begin along one axis, and returns which: from the lowest up, unless a
-    /// scan compares many fragments so and fewer from left to right. So it compares at most the pairs that share a
-    /// height.
-    ///
-    /// Once few were compared upward, later sorts of this buffer go upward too, and do not count again: a pass sorts
-    /// the pieces of the pass before, and most of them are as they were.
-    ///
-    /// Fails where a growth is refused; the groups are in some order then.
-    pub fn sort(&mut self) -> Result<Axis, AllocError>
-        ensures layout { grid_of self.new ≡ grid_of self.old }
-        ensures permutation { (column : ℕ) → IsPermutation (group_of self.old column) (group_of self.new column) }
-        ensures sorted { IfOk result (λ axis. (column : ℕ) → IsSortedAlong axis (group_of self.new column)) }
-        ensures looks { IfOk result (λ axis. buffer_looks axis self.new ≤ buffer_twos self.new) }
-    {
-        self.sort_along(Axis::Y)?;
-        if self.is_upward {
-            return Ok(Axis::Y);
-        }
-        if reached_at_most(self.groups(), Axis::Y) <= self.few_looks() {
-            self.is_upward = true;
-            return Ok(Axis::Y);
-        }
-        let upward = count_reached(self.groups(), Axis::Y);
-        if upward <= self.few_looks() {
-            self.is_upward = true;
-            return Ok(Axis::Y);
-        }
-        self.sort_along(Axis::X)?;
-        if count_reached(self.groups(), Axis::X) < upward {
-            return Ok(Axis::X);
-        }
-        self.sort_along(Axis::Y)?;
-        Ok(Axis::Y)
-    }
-
-    /// How many comparisons are few for this number of fragments.
-    fn few_looks(&self) -> u64 {
-        let mut fragments = 0_u64;
-        for group in self.groups.iter() {
-            fragments = fragments.saturating_add(group.len() as u64);
-        }
-        fragments.saturating_mul(SCAN_BUDGET_PER_FRAGMENT)
     }
 
     /// Sorts every group by where the fragments begin along an axis.

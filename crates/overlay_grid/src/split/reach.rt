@@ -10,21 +10,8 @@ use crate::split::axis::Axis;
 use crate::split::fragment::Fragment;
 use overlay_geometry::num::OverlayInt;
 
-/// How many pairs of fragments a scan of groups along an axis compares: each fragment with those after it in its group
-/// that begin up to where it ends; `u64::MAX` if there are more. The groups have to be sorted along the axis.
-pub(crate) fn count_reached<I: OverlayInt>(groups: &[Vec<Fragment<I>>], axis: Axis) -> u64
-    requires sorted { (column : ℕ) → IsSortedAlong axis (group_in I.whole groups.now column) }
-    ensures { result ≡ min (looks_of_groups axis (group_in I.whole groups.now) (length groups.now)) (2 ^ 64 - 1) }
-{
-    let mut count = 0_u64;
-    for column in 0..groups.len() {
-        let own = count_in_group(groups[column].as_slice(), axis);
-        count = count.saturating_add(own);
-    }
-    count
-}
-
-/// The same of one group.
+/// How many pairs of fragments a scan of a group along an axis compares: each fragment with those after it that begin
+/// up to where it ends; `u64::MAX` if there are more. The group has to be sorted along the axis.
 pub(crate) fn count_in_group<I: OverlayInt>(group: &[Fragment<I>], axis: Axis) -> u64
     requires sorted { IsSortedAlong axis (fragments_of I.whole group.now) }
     ensures { result ≡ min (looks_of_group axis (fragments_of I.whole group.now)) (2 ^ 64 - 1) }
@@ -53,8 +40,8 @@ fn begins_by<I: OverlayInt>(fragment: &Fragment<I>, end: I, axis: Axis) -> bool
     axis.least(&fragment.rect) <= end
 }
 
-/// A number which the pairs that `count_reached` counts do not exceed, up to `u64::MAX`. It takes fewer steps. The
-/// groups have to be sorted along the axis.
+/// A number which the pairs that `count_in_group` counts in all groups do not exceed, up to `u64::MAX`. It takes fewer
+/// steps. The groups have to be sorted along the axis.
 pub(crate) fn reached_at_most<I: OverlayInt>(groups: &[Vec<Fragment<I>>], axis: Axis) -> u64
     requires sorted { (column : ℕ) → IsSortedAlong axis (group_in I.whole groups.now column) }
     ensures { min (looks_of_groups axis (group_in I.whole groups.now) (length groups.now)) (2 ^ 64 - 1) ≤ result }

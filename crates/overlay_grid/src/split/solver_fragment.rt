@@ -5,7 +5,7 @@ ghost use Rattle.overlay_base.specs.declared.segm.fault.Fault.TheVariants.{Memor
 ghost use Rattle.overlay_geometry.specs.PairOf.{pair_of};
 ghost use Rattle.overlay_base.specs.SegmentOf.{ends_of, segments_of, pairs_in};
 ghost use Rattle.overlay_geometry.specs.InRange.{IsPairInRange};
-ghost use Rattle.overlay_grid.specs.GridLooks.{all_fragments, fragment_looks};
+ghost use Rattle.overlay_grid.specs.GridLooks.{all_fragments};
 ghost use Rattle.overlay_intersections.specs.PassMarks.{is_rounded};
 ghost use Rattle.overlay_intersections.specs.PlacingOf.{placing_of, HasRadius};
 ghost use Rattle.overlay_intersections.specs.MarkOf.{marks_of, AreMarksOf};
@@ -21,7 +21,7 @@ use crate::split::blocks::{BLOCK, block_end, list_meeting};
 use crate::split::border_contacts::mark_borders;
 use crate::split::fragment::Fragment;
 use crate::split::fragment_buffer::FragmentBuffer;
-use crate::split::sort_within::sort_up_to;
+use crate::split::sort_within::sort_within;
 use overlay_base::segm::fault::Fault;
 use overlay_base::segm::segment::Segment;
 use overlay_base::segm::winding::WindingCount;
@@ -32,41 +32,20 @@ use overlay_intersections::split::marking::{Indexed, mark_both};
 use overlay_intersections::split::placing::Placing;
 use std::alloc::AllocError;
 
-/// Finds the marks of a pass: the points at which each segment is to be split, each once, by rising index and then in
-/// order of points. Returns whether two segments cross at a point without whole coordinates, so that the pass rounds.
+/// Finds the marks of a pass, if that compares no more pairs than it may: the points at which each segment is to be
+/// split, each once, by rising index and then in order of points. Returns whether two segments cross at a point without
+/// whole coordinates, so that the pass rounds, and `None` where it gave up. Then it compares no pair, and `marks` is of
+/// no use.
 ///
 /// The segments have to be in range and inside the buffer's layout, and a squared radius at least 1. Those are looked
 /// at whose fragments meet in some column; a vertical segment on the left border of a column besides takes marks from
 /// the right ends in the column to its left. What `marks` and `buffer` held before is dropped.
 ///
 /// Returns `Fault::Memory` where a growth is refused; `marks` is of no use then.
-pub fn find_marks<C: WindingCount, I: OverlayInt, D: Copy>(
+pub(crate) fn find_marks_within<C: WindingCount, I: OverlayInt, D: Copy>(
     segments: &[Segment<C, I, D>],
     placing: Placing,
-    buffer: &mut FragmentBuffer<I>,
-    marks: &mut Vec<LineMark<I>>,
-    looked: &mut u128,
-) -> Result<bool, Fault>
-    requires in_range { AreInRange segments.now }
-    requires inside { All (λ s. IsInside (grid_of buffer.old) (ends_of s)) segments.now }
-    requires radius { HasRadius placing }
-    ensures layout { grid_of buffer.new ≡ grid_of buffer.old }
-    ensures marks { OnOk result (AreMarksOf placing segments.now marks.new.items) }
-    ensures rounded { IfOk result (λ rounded. rounded ≡ is_rounded (segments_of segments.now)) }
-    ensures looked { OnOk result
-        (looked.new ≤ looked.old + fragment_looks (grid_of buffer.old) (pairs_in segments.now)) }
-    ensures fault { IfErr result (λ fault. fault ≡ Memory) }
-{
-    let found = find_marks_up_to(segments, placing, None, buffer, marks, looked)?;
-    Ok(found.unwrap())
-}
-
-/// Finds the marks of a pass as `find_marks` does, under the same conditions. With a limit it compares no more pairs
-/// than that; it returns `None` where it could not keep to it. Then it compares none, and `marks` is of no use.
-pub(crate) fn find_marks_up_to<C: WindingCount, I: OverlayInt, D: Copy>(
-    segments: &[Segment<C, I, D>],
-    placing: Placing,
-    limit: Option<u64>,
+    most: u64,
     buffer: &mut FragmentBuffer<I>,
     marks: &mut Vec<LineMark<I>>,
     looked: &mut u128,
@@ -77,16 +56,13 @@ pub(crate) fn find_marks_up_to<C: WindingCount, I: OverlayInt, D: Copy>(
     ensures layout { grid_of buffer.new ≡ grid_of buffer.old }
     ensures marks { IfOk result (λ found. OnSome found (AreMarksOf placing segments.now marks.new.items)) }
     ensures rounded { IfOk result (λ found. IfSome found (λ rounded. rounded ≡ is_rounded (segments_of segments.now))) }
-    ensures found { limit ≡ None → IfOk result (λ found. IsSome found) }
-    ensures looked { limit ≡ None → OnOk result
-        (looked.new ≤ looked.old + fragment_looks (grid_of buffer.old) (pairs_in segments.now)) }
-    ensures within { IfSome limit (λ most. OnOk result (looked.new ≤ looked.old + most)) }
+    ensures looked { OnOk result (looked.new ≤ looked.old + most) }
     ensures given_up { IfOk result (λ found. IfNone found (looked.new ≡ looked.old)) }
     ensures fault { IfErr result (λ fault. fault ≡ Memory) }
 {
     marks.clear();
     fill(segments, buffer)?;
-    let Some(axis) = sort_up_to(buffer, limit)? else {
+    let Some(axis) = sort_within(buffer, most)? else {
         return Ok(None);
     };
     let rounded = mark_columns(buffer.groups(), axis, placing, marks, looked)?;

@@ -10,7 +10,7 @@ ghost use Rattle.overlay_grid.specs.GroupsOf.{grid_of};
 ghost use Rattle.overlay_base.specs.ArrangedOf.{AreInRange};
 
 use crate::split::fragment_buffer::FragmentBuffer;
-use crate::split::solver_fragment::find_marks_up_to;
+use crate::split::solver_fragment::find_marks_within;
 use overlay_base::segm::fault::Fault;
 use overlay_base::segm::segment::Segment;
 use overlay_base::segm::winding::WindingCount;
@@ -18,7 +18,7 @@ use overlay_geometry::num::OverlayInt;
 use overlay_intersections::split::line_mark::LineMark;
 use overlay_intersections::split::placing::Placing;
 
-/// Finds the marks of a pass as `solver_fragment::find_marks` does, under the same conditions, but in one row, if that
+/// Finds the marks of a pass as `column_sweep::find_marks` does, of segments in any order, but in one row, if that
 /// compares no more pairs than it may: each segment is one fragment, or two. The row is not that of `buffer`, which stays
 /// as it is.
 ///
@@ -47,5 +47,5 @@ pub fn find_marks_in_row<C: WindingCount, I: OverlayInt, D: Copy>(
         return Ok(None);
     };
     let mut row = FragmentBuffer::new(buffer.alloc, layout)?;
-    find_marks_up_to(segments, placing, Some(most), &mut row, marks, looked)
+    find_marks_within(segments, placing, most, &mut row, marks, looked)
 }

@@ -1,7 +1,7 @@
 // The sort of a buffer whose scan may compare no more than so many pairs. This project's own.
-ghost use Rattle.std.specs.Prelude.{◌≡◌, ◌≤◌, ◌+◌, ℕ, true, None, IfOk, IfSome, IsSome, IsPermutation};
+ghost use Rattle.std.specs.Prelude.{◌≡◌, ◌≤◌, ◌+◌, ℕ, true, IfOk, IfSome, IsPermutation};
 ghost use Rattle.overlay_grid.specs.FragmentOf.{IsSortedAlong};
-ghost use Rattle.overlay_grid.specs.BufferLooks.{buffer_looks, buffer_twos};
+ghost use Rattle.overlay_grid.specs.BufferLooks.{buffer_looks};
 ghost use Rattle.overlay_grid.specs.GroupsOf.{group_of, grid_of};
 ghost use Rattle.overlay_grid.specs.steps.BufferBorders.{buffer_borders};
 
@@ -12,33 +12,10 @@ use crate::split::reach::reached_at_most;
 use overlay_geometry::num::OverlayInt;
 use std::alloc::AllocError;
 
-/// Sorts every group along one axis and returns which, as `FragmentBuffer::sort` does. With a limit, a scan along it
-/// and the borders compare fewer pairs than that together; it returns `None` where neither axis is such.
-pub(crate) fn sort_up_to<I: OverlayInt>(
-    buffer: &mut FragmentBuffer<I>,
-    limit: Option<u64>,
-) -> Result<Option<Axis>, AllocError>
-    ensures layout { grid_of buffer.new ≡ grid_of buffer.old }
-    ensures permutation { (column : ℕ) → IsPermutation (group_of buffer.old column) (group_of buffer.new column) }
-    ensures sorted { IfOk result (λ found. IfSome found (λ axis. (column : ℕ)
-        → IsSortedAlong axis (group_of buffer.new column))) }
-    ensures found { limit ≡ None → IfOk result (λ found. IsSome found) }
-    ensures looks { limit ≡ None → IfOk result (λ found. IfSome found (λ axis.
-        buffer_looks axis buffer.new ≤ buffer_twos buffer.new)) }
-    ensures within { IfSome limit (λ most. IfOk result (λ found. IfSome found (λ axis.
-        buffer_looks axis buffer.new + buffer_borders buffer.new ≤ most))) }
-{
-    match limit {
-        Some(most) => sort_within(buffer, most),
-        None => {
-            let axis = buffer.sort()?;
-            Ok(Some(axis))
-        }
-    }
-}
-
-/// Sorts every group from the lowest up, or from left to right where only that keeps to the limit.
-fn sort_within<I: OverlayInt>(
+/// Sorts every group along one axis and returns which: from the lowest up, or from left to right where only that keeps
+/// to the limit. A scan along it and the borders compare fewer pairs than the limit together; it returns `None` where
+/// neither axis is such.
+pub(crate) fn sort_within<I: OverlayInt>(
     buffer: &mut FragmentBuffer<I>,
     most: u64,
 ) -> Result<Option<Axis>, AllocError>

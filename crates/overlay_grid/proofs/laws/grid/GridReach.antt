@@ -6,19 +6,17 @@ use Rattle.std.specs.List.Sorted.{IsPartitionedBy, IsPartitionPoint}
 use Rattle.std.specs.Ordering.{int_cmp}
 use Rattle.std.proofs.lemmas.Int.{ints, clamps}
 use Rattle.std.proofs.lemmas.List.{drop-map, length-drop, take_all}
-use Rattle.std.proofs.lemmas.List.Sums.{sum_by-cons}
 use Rattle.overlay_intersections.specs.Looked.{count_twos, ranges_meet}
 use Rattle.overlay_grid.specs.FragmentOf.{KeptFragment, fragment_of, fragments_of, on_axis, least_along, IsSortedAlong}
-use Rattle.overlay_grid.specs.ColumnLooks.{do_heights_meet, twos_in_height, all_twos_in_height, is_reached, looks_of_group, looks_of_groups}
+use Rattle.overlay_grid.specs.ColumnLooks.{do_heights_meet, twos_in_height, is_reached, looks_of_group}
 use Rattle.overlay_grid.specs.declared.split.axis.Axis.{Axis}
 use Rattle.overlay_grid.specs.declared.split.axis.Axis.TheVariants.{X, Y}
 use Rattle.overlay_grid.specs.declared.split.fragment.Fragment.{Fragment as CodeFragment}
 use Rattle.overlay_grid.proofs.laws.grid.GridGroups.{begins}
 use Rattle.overlay_grid.proofs.laws.grid.BorderMarks.{parted_up_to}
 use Rattle.overlay_grid.proofs.laws.grid.FoundFragments.{IsSortedAlong-drop}
-use Rattle.overlay_grid.proofs.laws.grid.GridCounts.{count_by-cons, sum_by-alike}
+use Rattle.overlay_grid.proofs.laws.grid.GridCounts.{count_by-cons}
 use Rattle.overlay_grid.proofs.laws.grid.GridFills.{sum-next}
-use Rattle.overlay_grid.proofs.laws.grid.GridLooks.{twos_permuted, heights_back}
 use Rattle.std.proofs.Math.Nat.{zero-add}
 
 -- those from an index on, as a slice has them
@@ -190,23 +188,6 @@ pub group_upward : (fs : List KeptFragment) → IsSortedAlong Y fs → looks_of_
 unfolding count_twos
 group_upward [] h = omega arith
 group_upward (f ∷ fs) h = let first = first_upward f fs h.0 in let rest = group_upward fs h.1 in omega arith
-
-sums_rise : (p q : ℕ → ℕ) → ((n : ℕ) → p n ≤ q n) → (ns : List ℕ) → sum_by p ns ≤ sum_by q ns
-sums_rise p q h [] = omega arith
-sums_rise p q h (n ∷ ns) =
-    let a = sum_by-cons p n ns in
-    let b = sum_by-cons q n ns in
-    let c = h n in
-    let d = sums_rise p q h ns in
-    omega arith
-
-pub upward_within : (groups : ℕ → List KeptFragment) (columns : ℕ) → ((column : ℕ) → IsSortedAlong Y (groups column)) → looks_of_groups Y groups columns ≤ all_twos_in_height groups columns
-upward_within groups columns h = sums_rise (λ c. looks_of_group Y (groups c)) (λ c. twos_in_height (groups c)) (λ c. group_upward (groups c) (h c)) (range_with_len 0 columns)
-
--- the twos that share a height are as many in any order
-pub heights_permuted : (groups groups' : ℕ → List KeptFragment) (columns : ℕ) → ((column : ℕ) → IsPermutation (groups column) (groups' column)) → all_twos_in_height groups' columns ≡ all_twos_in_height groups columns
-heights_permuted groups groups' columns same =
-    sum_by-alike (λ c. twos_in_height (groups' c)) (λ c. twos_in_height (groups c)) (λ c. twos_permuted do_heights_meet heights_back (groups c) (groups' c) (same c)) (range_with_len 0 columns)
 
 -- so a scan along another axis that reaches fewer stays within them too
 pub fewer_within : (x y across upward twos : ℕ) → x ≡ min across (2 ^ 64 - 1) → y ≡ min upward (2 ^ 64 - 1) → x < y → upward ≤ twos → across ≤ twos

@@ -18,8 +18,8 @@ inside_row l row least greatest s from to inside x = record {
   to = subst (λ (m : ℤ). s.b.x ≤ℤ m) (sym to) (le-tested _ _ (both (int_le least s.b.x) (int_le s.b.x greatest) x).1);
 }
 
-pub find_marks_up_to-requires-clause-inside : goal.find_marks_up_to-requires-clause-inside
-find_marks_up_to-requires-clause-inside g c k d h =
+pub find_marks_within-requires-clause-inside : goal.find_marks_within-requires-clause-inside
+find_marks_within-requires-clause-inside g c k d h =
     let whole = g.I.OverlayInt.whole in
     let least = whole g.I.OverlayInt.MIN_COORD in
     let greatest = whole g.I.OverlayInt.MAX_COORD in

@@ -1,5 +1,5 @@
 use Rattle.std.proofs.Common.{refl}
-use Rattle.overlay_geometry.proofs.geom.end.EndDefault.default.Goals as goal
+use Rattle.overlay_upstream.proofs.geom.end.EndDefault.default.Goals as goal
 
 pub ZERO-requires : goal.ZERO-requires
 ZERO-requires g c κs kept = kept

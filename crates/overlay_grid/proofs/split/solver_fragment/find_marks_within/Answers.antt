@@ -1,6 +1,5 @@
 use Rattle.std.proofs.Common.{◌≡◌, ◌≤◌, ◌+◌, ◌-◌, arith, sym, ap, ap₂, subst, ◌∙◌, ◌++◌, List, ℕ, length}
 use Rattle.std.specs.Prelude.{IsTrue, IsPermutation, flat_map, sum_by}
-use Rattle.std.proofs.lemmas.Option.{IfSome_then}
 use Rattle.overlay_grid.specs.steps.BufferBorders.{buffer_borders}
 use Rattle.std.specs.List.{AllByRecursion, list_any, range_with_len}
 use Rattle.overlay_geometry.specs.Coordinates.{is_pair_in_range}
@@ -14,23 +13,22 @@ use Rattle.overlay_intersections.specs.MarkOf.{Mark, marks_of}
 use Rattle.overlay_grid.specs.Grid.{Layout, pos_of, group_count, IsInside}
 use Rattle.overlay_grid.specs.FragmentOf.{KeptFragment}
 use Rattle.overlay_grid.specs.GroupsOf.{group_in, group_of, grid_of}
-use Rattle.overlay_grid.specs.ColumnLooks.{looks_of_groups, all_twos_in_height}
+use Rattle.overlay_grid.specs.ColumnLooks.{looks_of_groups}
 use Rattle.overlay_grid.specs.steps.FragmentFinder.{HoldSame, is_ready, kept_group, marks_of_group, is_group_rounded, marks_of_border, looks_of_border}
 use Rattle.overlay_grid.proofs.laws.grid.GridFound.{all_pairs, all_ready, sound, complete, rounded_is}
 use Rattle.overlay_intersections.proofs.laws.marks.LineMarks.{AreMarks-from_elements}
-use Rattle.overlay_grid.proofs.laws.grid.GridLooks.{within_bound}
 use Rattle.overlay_grid.proofs.laws.grid.BorderMarks.{has_same, has_back}
-use Rattle.overlay_grid.proofs.split.solver_fragment.find_marks_up_to.Goals as goal
+use Rattle.overlay_grid.proofs.split.solver_fragment.find_marks_within.Goals as goal
 
 pub mark_columns-requires-clause-ready : goal.mark_columns-requires-clause-ready
 mark_columns-requires-clause-ready g c column =
     let segments = segments_of c.args.segments.now in
     let ps = pairs segments in
     let l = grid_of c.args.buffer.now in
-    let groups = group_of c.sort_up_to.new.buffer in
+    let groups = group_of c.sort_within.new.buffer in
     let ordered = are_ordered c.args.segments.now in
     let within = all_pairs (IsInside l) c.args.segments.now c.requires.inside in
-    let same : (column : ℕ) → IsPermutation (kept_group l 0 ps column) (groups column) = λ column. subst (λ (fs : List KeptFragment). IsPermutation fs (groups column)) (c.in_ok-fill.ensures.groups column) (c.sort_up_to.ensures.permutation column) in
+    let same : (column : ℕ) → IsPermutation (kept_group l 0 ps column) (groups column) = λ column. subst (λ (fs : List KeptFragment). IsPermutation fs (groups column)) (c.in_ok-fill.ensures.groups column) (c.sort_within.ensures.permutation column) in
     let in_range = all_pairs (λ s. IsTrue (is_pair_in_range (g.I.OverlayInt.whole g.I.OverlayInt.MIN_COORD) (g.I.OverlayInt.whole g.I.OverlayInt.MAX_COORD) s)) c.args.segments.now (All-weaker _ _ (λ s h. pair_in_range g.I.OverlayInt.whole g.I.OverlayInt.MIN_COORD g.I.OverlayInt.MAX_COORD (x_segment_of s) h) c.args.segments.now c.requires.in_range) in
     let ready = all_ready (placing_of c.args.placing) l segments groups ordered within same (g.I.OverlayInt.whole g.I.OverlayInt.MIN_COORD) (g.I.OverlayInt.whole g.I.OverlayInt.MAX_COORD) in_range in
     subst (λ (gs : List _). AllByRecursion (λ f. IsTrue (is_ready (g.I.OverlayInt.whole g.I.OverlayInt.MIN_COORD) (g.I.OverlayInt.whole g.I.OverlayInt.MAX_COORD) f)) (group_in g.I.OverlayInt.whole gs column)) (sym c.groups.ensures) (ready column)
@@ -40,10 +38,10 @@ mark_borders-requires g c =
     let segments = segments_of c.args.segments.now in
     let ps = pairs segments in
     let l = grid_of c.args.buffer.now in
-    let groups = group_of c.sort_up_to.new.buffer in
+    let groups = group_of c.sort_within.new.buffer in
     let ordered = are_ordered c.args.segments.now in
     let within = all_pairs (IsInside l) c.args.segments.now c.requires.inside in
-    let same : (column : ℕ) → IsPermutation (kept_group l 0 ps column) (groups column) = λ column. subst (λ (fs : List KeptFragment). IsPermutation fs (groups column)) (c.in_ok-fill.ensures.groups column) (c.sort_up_to.ensures.permutation column) in
+    let same : (column : ℕ) → IsPermutation (kept_group l 0 ps column) (groups column) = λ column. subst (λ (fs : List KeptFragment). IsPermutation fs (groups column)) (c.in_ok-fill.ensures.groups column) (c.sort_within.ensures.permutation column) in
     let in_range = all_pairs (λ s. IsTrue (is_pair_in_range (g.I.OverlayInt.whole g.I.OverlayInt.MIN_COORD) (g.I.OverlayInt.whole g.I.OverlayInt.MAX_COORD) s)) c.args.segments.now (All-weaker _ _ (λ s h. pair_in_range g.I.OverlayInt.whole g.I.OverlayInt.MIN_COORD g.I.OverlayInt.MAX_COORD (x_segment_of s) h) c.args.segments.now c.requires.in_range) in
     let ready = all_ready (placing_of c.args.placing) l segments groups ordered within same (g.I.OverlayInt.whole g.I.OverlayInt.MIN_COORD) (g.I.OverlayInt.whole g.I.OverlayInt.MAX_COORD) in_range in
     record { ready = ready }
@@ -53,44 +51,27 @@ returns-clause-rounded g c =
     let segments = segments_of c.args.segments.now in
     let ps = pairs segments in
     let l = grid_of c.args.buffer.now in
-    let groups = group_of c.sort_up_to.new.buffer in
+    let groups = group_of c.sort_within.new.buffer in
     let ordered = are_ordered c.args.segments.now in
     let within = all_pairs (IsInside l) c.args.segments.now c.requires.inside in
-    let same : (column : ℕ) → IsPermutation (kept_group l 0 ps column) (groups column) = λ column. subst (λ (fs : List KeptFragment). IsPermutation fs (groups column)) (c.in_ok-fill.ensures.groups column) (c.sort_up_to.ensures.permutation column) in
-    let layout = c.sort_up_to.ensures.layout ∙ c.in_ok-fill.ensures.layout in
-    let count : length c.groups.result.now ≡ group_count l = ap length c.groups.ensures ∙ c.sort_up_to.new.buffer.columns ∙ ap (λ (m : Layout). group_count m) layout in
+    let same : (column : ℕ) → IsPermutation (kept_group l 0 ps column) (groups column) = λ column. subst (λ (fs : List KeptFragment). IsPermutation fs (groups column)) (c.in_ok-fill.ensures.groups column) (c.sort_within.ensures.permutation column) in
+    let layout = c.sort_within.ensures.layout ∙ c.in_ok-fill.ensures.layout in
+    let count : length c.groups.result.now ≡ group_count l = ap length c.groups.ensures ∙ c.sort_within.new.buffer.columns ∙ ap (λ (m : Layout). group_count m) layout in
     c.in_ok-rounded.ensures.rounded
     ∙ ap₂ (λ (gs : List _) (n : ℕ). list_any (λ column. is_group_rounded (group_in g.I.OverlayInt.whole gs column)) (range_with_len 0 n)) c.groups.ensures count
     ∙ rounded_is (placing_of c.args.placing) l segments groups ordered within same
-
-pub returns-clause-looked : goal.returns-clause-looked
-returns-clause-looked g c none =
-    let segments = segments_of c.args.segments.now in
-    let ps = pairs segments in
-    let l = grid_of c.args.buffer.now in
-    let groups = group_of c.sort_up_to.new.buffer in
-    let ordered = are_ordered c.args.segments.now in
-    let within = all_pairs (IsInside l) c.args.segments.now c.requires.inside in
-    let same : (column : ℕ) → IsPermutation (kept_group l 0 ps column) (groups column) = λ column. subst (λ (fs : List KeptFragment). IsPermutation fs (groups column)) (c.in_ok-fill.ensures.groups column) (c.sort_up_to.ensures.permutation column) in
-    let layout = c.sort_up_to.ensures.layout ∙ c.in_ok-fill.ensures.layout in
-    let count : length c.groups.result.now ≡ group_count l = ap length c.groups.ensures ∙ c.sort_up_to.new.buffer.columns ∙ ap (λ (m : Layout). group_count m) layout in
-    let looks = subst (λ (m : Layout). looks_of_groups c.in-Some.axis groups (group_count m) ≤ all_twos_in_height groups (group_count m)) layout (rw c.in-Some.is at (c.in_ok-axis.ensures.looks none)) in
-    let seen = subst (λ (n : ℕ). c.mark_columns.new.looked ≤ c.args.looked.now + n)
-    (ap₂ (λ (gs : List _) (n : ℕ). looks_of_groups c.in-Some.axis (group_in g.I.OverlayInt.whole gs) n) c.groups.ensures count) c.in_ok-rounded.ensures.looked in
-    within_bound l ps groups ordered within same c.args.looked.now c.mark_columns.new.looked c.mark_borders.new.looked (omega (arith, looks, seen))
-    (subst (λ (m : Layout). c.mark_borders.new.looked ≤ c.mark_columns.new.looked + sum_by (λ column. looks_of_border (pos_of m (column + 1)) (groups column) (groups (column + 1))) (range_with_len 0 (group_count m - 1))) layout c.in_ok-mark_borders.ensures.looked)
 
 pub returns-clause-marks : goal.returns-clause-marks
 returns-clause-marks g c =
     let segments = segments_of c.args.segments.now in
     let ps = pairs segments in
     let l = grid_of c.args.buffer.now in
-    let groups = group_of c.sort_up_to.new.buffer in
+    let groups = group_of c.sort_within.new.buffer in
     let ordered = are_ordered c.args.segments.now in
     let within = all_pairs (IsInside l) c.args.segments.now c.requires.inside in
-    let same : (column : ℕ) → IsPermutation (kept_group l 0 ps column) (groups column) = λ column. subst (λ (fs : List KeptFragment). IsPermutation fs (groups column)) (c.in_ok-fill.ensures.groups column) (c.sort_up_to.ensures.permutation column) in
-    let layout = c.sort_up_to.ensures.layout ∙ c.in_ok-fill.ensures.layout in
-    let count : length c.groups.result.now ≡ group_count l = ap length c.groups.ensures ∙ c.sort_up_to.new.buffer.columns ∙ ap (λ (m : Layout). group_count m) layout in
+    let same : (column : ℕ) → IsPermutation (kept_group l 0 ps column) (groups column) = λ column. subst (λ (fs : List KeptFragment). IsPermutation fs (groups column)) (c.in_ok-fill.ensures.groups column) (c.sort_within.ensures.permutation column) in
+    let layout = c.sort_within.ensures.layout ∙ c.in_ok-fill.ensures.layout in
+    let count : length c.groups.result.now ≡ group_count l = ap length c.groups.ensures ∙ c.sort_within.new.buffer.columns ∙ ap (λ (m : Layout). group_count m) layout in
     let p = placing_of c.args.placing in
     let columns = flat_map (λ column. marks_of_group p (groups column)) (range_with_len 0 (group_count l)) in
     let borders = flat_map (λ column. marks_of_border (pos_of l (column + 1)) (groups column) (groups (column + 1))) (range_with_len 0 (group_count l - 1)) in
@@ -107,12 +88,12 @@ returns-clause-marks g c =
     (λ m h. has_same (columns ++ borders) now all m (complete p l segments groups ordered within same m h))
     c.in_ok-sort_marks.ensures.permutation c.in_ok-sort_marks.ensures.sorted c.dedup.ensures.filtered
 
-pub returns-clause-within : goal.returns-clause-within
-returns-clause-within g c =
-    let groups = group_of c.sort_up_to.new.buffer in
-    let l = grid_of c.sort_up_to.new.buffer in
-    let count : length c.groups.result.now ≡ group_count l = ap length c.groups.ensures ∙ c.sort_up_to.new.buffer.columns in
+pub returns-clause-looked : goal.returns-clause-looked
+returns-clause-looked g c =
+    let groups = group_of c.sort_within.new.buffer in
+    let l = grid_of c.sort_within.new.buffer in
+    let count : length c.groups.result.now ≡ group_count l = ap length c.groups.ensures ∙ c.sort_within.new.buffer.columns in
     let seen = subst (λ (n : ℕ). c.mark_columns.new.looked ≤ c.args.looked.now + n)
     (ap₂ (λ (gs : List _) (n : ℕ). looks_of_groups c.in-Some.axis (group_in g.I.OverlayInt.whole gs) n) c.groups.ensures count) c.in_ok-rounded.ensures.looked in
-    let at_borders : c.mark_borders.new.looked ≤ c.mark_columns.new.looked + buffer_borders c.sort_up_to.new.buffer = c.in_ok-mark_borders.ensures.looked in
-    IfSome_then c.args.limit (rw c.in-Some.is at c.in_ok-axis.ensures.within) (λ most within. omega (arith, seen, at_borders, within))
+    let at_borders : c.mark_borders.new.looked ≤ c.mark_columns.new.looked + buffer_borders c.sort_within.new.buffer = c.in_ok-mark_borders.ensures.looked in
+    omega (arith, seen, at_borders, rw c.in-Some.is at c.in_ok-axis.ensures.within)

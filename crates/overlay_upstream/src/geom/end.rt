@@ -1,7 +1,7 @@
 // The far end of a segment, with the segment's index. Upstream: `geom::end`.
 
-use crate::geom::point::IntPoint;
-use crate::num::OverlayInt;
+use overlay_geometry::geom::point::IntPoint;
+use overlay_geometry::num::OverlayInt;
 
 /// The end of the segment at an index of a list. By default index 0 at the origin.
 #[derive(Clone, Copy)]
