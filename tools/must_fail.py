@@ -46,6 +46,8 @@ ANSWER = re.compile(r"^(?:-- .*\n)*pub (\S+) : goal\.(?:.*\n)(?:(?!-- |pub ).*\n
 ANSWERED = re.compile(r"(?:\./)?(proofs/\S+/Answers\.antt):\d+:\d+: error: `(\S+)`: ")
 # what a proof says of a name that an edit took away, and what cites that proof
 OF_NAMES = re.compile(r"(?:note: )?(?:\./)?proofs/.*(?:has no field|is not in scope|has no `|was not admitted|was rejected)")
+# what the compiler says of a text that does not compile
+UNCOMPILED = re.compile(r"(?:\./)?src/\S+?:\d+:\d+: error\[")
 NO_FUNCTION = re.compile(r"has no function `(\S+)`")
 # with fewer a crate's statements are read more often, with more a last round takes long while other processors idle
 EDITS_OF_A_ROUND = 24
@@ -354,6 +356,13 @@ class Trial:
             self.others = {proof: it for proof, it in self.others.items() if proof not in unread}
             texts, said, more = self.checked_with(edits)
             took += more
+        wrong = self.uncompiled_in(edits, said, texts)
+        if wrong and len(wrong) < len(edits):
+            # one that does not compile would hide the goals of all others
+            for edit in wrong:
+                edit.said = "it does not compile"
+                print(f"        {self.crate.name}/{edit.name} does not compile", flush=True)
+            return took + self.try_round([edit for edit in edits if edit not in wrong])
         # a message goes on in lines that begin with two spaces, the first of which says what a proof names in vain
         whole = re.sub(r"\n  (?=has no )", " ", said)
         # what has a word in brackets is no goal: the edit does not compile
@@ -365,6 +374,12 @@ class Trial:
                 edit.has_new_vain = self.find_vain(edit, goals, texts)
                 edit.said = "\n".join(said.split("\n")[-8:])
         return took
+
+    def uncompiled_in(self, edits, said, texts):
+        """Returns the edits that change a function in which the compiler finds an error."""
+        found = {self.function_of(line, texts) for line in said.split("\n") if UNCOMPILED.match(line)}
+        is_wrong = lambda edit: any((*function, edit.number) in found for function in edit.functions)
+        return [edit for edit in edits if is_wrong(edit)]
 
     def find_vain(self, edit, goals, texts):
         """Notes the proofs of functions that an edit changes which name what it took away, and returns whether there is a new one."""
