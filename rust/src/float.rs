@@ -2,19 +2,20 @@
 
 use crate::memory::{collect, collect_all, push, reserve};
 use crate::{
-    Axis, Error, Fault, FillRule, IntContour, IntPoint, IntShape, Overlay, OverlayRule, PointLocation, Rounding,
-    ShapeType, MAX_COORD, MIN_COORD,
+    Axis, Error, Fault, FillRule, FloatArrangement, FloatPointCompatible, IntContour, IntPoint, IntShape, Overlay,
+    OverlayRule, PointLocation, Rounding, ShapeType, MAX_COORD, MIN_COORD,
 };
 use std::fmt;
+use std::marker::PhantomData;
 
 /// A point with floating coordinates.
 pub type FloatPoint = [f64; 2];
 
 /// A contour of such points: each is joined to the next, and the last to the first.
-pub type FloatContour = Vec<FloatPoint>;
+pub type FloatContour<P = FloatPoint> = Vec<P>;
 
 /// A shape of such points: its outer boundary and its holes.
-pub type FloatShape = Vec<FloatContour>;
+pub type FloatShape<P = FloatPoint> = Vec<FloatContour<P>>;
 
 /// Why a call with floating coordinates was refused. Its text says what is wrong with which point.
 #[derive(Clone, Copy, Debug, PartialEq)]
@@ -27,6 +28,17 @@ pub enum FloatError {
         /// The index of the contour among those of its shape.
         contour: usize,
         /// The index of the point in the contour.
+        point: usize,
+        /// Its first such coordinate.
+        axis: Axis,
+        /// The value of that.
+        value: f64,
+    },
+    /// The same of a point of a line.
+    Line {
+        /// The index of the line.
+        line: usize,
+        /// The index of the point in the line.
         point: usize,
         /// Its first such coordinate.
         axis: Axis,
@@ -49,8 +61,11 @@ impl fmt::Display for FloatError {
     fn fmt(&self, f: &mut fmt::Formatter<'_>) -> fmt::Result {
         match self {
             FloatError::Point { shape_type, contour, point, axis, value } => {
-                let wrong = if value.is_finite() { "is outside of the bounds" } else { "is no finite number" };
+                let wrong = wrong_with(*value);
                 write!(f, "contour {contour} of the {shape_type}, point {point}: {axis} is {value}, which {wrong}")
+            }
+            FloatError::Line { line, point, axis, value } => {
+                write!(f, "line {line}, point {point}: {axis} is {value}, which {}", wrong_with(*value))
             }
             FloatError::Bounds => f.write_str("the bounds are not finite, or the least is above the greatest"),
             FloatError::Scale { most } => {
@@ -58,6 +73,15 @@ impl fmt::Display for FloatError {
             }
             FloatError::Overlay(error) => error.fmt(f),
         }
+    }
+}
+
+/// What is wrong with the coordinate of a refused point.
+fn wrong_with(value: f64) -> &'static str {
+    if value.is_finite() {
+        "is outside of the bounds"
+    } else {
+        "is no finite number"
     }
 }
 
@@ -137,10 +161,28 @@ impl FloatPointAdapter {
         }
     }
 
+    /// The adapter of bounds with so many decimal digits, from 0 to 22: a scale of a power of ten. What is written with these
+    /// digits is then what was computed.
+    ///
+    /// ```
+    /// use fadrinzo::FloatPointAdapter;
+    ///
+    /// let degrees = FloatPointAdapter::with_digits([11.0, 48.0], [12.0, 49.0], 7)?;
+    /// assert_eq!(degrees.scale(), 1e7);
+    /// assert_eq!(degrees.to_float(degrees.to_int([11.5712345, 48.1]).unwrap()), [11.5712345, 48.1]);
+    /// # Ok::<(), fadrinzo::FloatError>(())
+    /// ```
+    pub fn with_digits(least: FloatPoint, greatest: FloatPoint, digits: u8) -> Result<FloatPointAdapter, FloatError> {
+        // up to 22 digits a power of ten is a number of this type; a greater scale is refused
+        let scale = if digits <= 22 { f64::powi(10.0, digits.into()) } else { f64::INFINITY };
+        FloatPointAdapter::with_scale(least, greatest, scale)
+    }
+
     /// The adapter of the bounds of points. Points that are not finite are passed over; an overlay names them.
-    pub fn with_iter(points: impl IntoIterator<Item = FloatPoint>) -> FloatPointAdapter {
+    pub fn with_iter<P: FloatPointCompatible>(points: impl IntoIterator<Item = P>) -> FloatPointAdapter {
         let (mut least, mut greatest) = ([f64::MAX; 2], [f64::MIN; 2]);
-        for point in points.into_iter().filter(|point| point.iter().all(|value| value.is_finite())) {
+        let points = points.into_iter().map(|point| [point.x(), point.y()]);
+        for point in points.filter(|point| point.iter().all(|value| value.is_finite())) {
             for axis in 0..2 {
                 least[axis] = least[axis].min(point[axis]);
                 greatest[axis] = greatest[axis].max(point[axis]);
@@ -168,9 +210,9 @@ impl FloatPointAdapter {
     }
 
     /// The nearest whole point. `None` where a coordinate is not finite, or outside of the bounds by more than half a whole unit.
-    pub fn to_int(&self, point: FloatPoint) -> Option<IntPoint> {
+    pub fn to_int<P: FloatPointCompatible>(&self, point: P) -> Option<IntPoint> {
         let [low, high] = self.whole;
-        let whole = whole_point(self.center, self.scale, point)?;
+        let whole = whole_point(self.center, self.scale, [point.x(), point.y()])?;
         let is_within = low.x <= whole.x && whole.x <= high.x && low.y <= whole.y && whole.y <= high.y;
         is_within.then_some(whole)
     }
@@ -198,14 +240,51 @@ impl FloatPointAdapter {
         collect(contour.iter().map(|&point| self.to_float(point)))
     }
 
+    /// The nearest whole points of a contour. Returns `FloatError::Point`, as of contour 0 of the subject, where one is not
+    /// finite, or outside of the bounds by more than half a whole unit, and `Fault::Memory` where there is none.
+    ///
+    /// ```
+    /// use fadrinzo::{FloatPointAdapter, IntPoint};
+    ///
+    /// let adapter = FloatPointAdapter::with_scale([0.0; 2], [8.0; 2], 10.0)?;
+    /// let corners = adapter.contour_to_int(&[[0.0, 0.0], [8.0, 0.26]])?;
+    /// assert_eq!(adapter.contour_to_float(&corners)?, [[0.0, 0.0], [8.0, 0.3]]);
+    /// assert!(adapter.contour_to_int(&[(0.0, 9.0)]).is_err());
+    /// # Ok::<(), fadrinzo::FloatError>(())
+    /// ```
+    pub fn contour_to_int<P: FloatPointCompatible>(&self, contour: &[P]) -> Result<IntContour, FloatError> {
+        let mut whole = Vec::new();
+        push_whole(self, contour, &mut whole, |point, at| bad_point(self, ShapeType::Subject, 0, point, at))?;
+        Ok(whole)
+    }
+
+    /// The point of a whole point, of another type.
+    fn point_of<P: FloatPointCompatible>(&self, point: IntPoint) -> P {
+        let [x, y] = self.to_float(point);
+        P::from_xy(x, y)
+    }
+
+    /// The points of a whole contour, of another type.
+    pub(crate) fn points_of<P: FloatPointCompatible>(&self, points: &[IntPoint]) -> Result<Vec<P>, Fault> {
+        collect(points.iter().map(|&point| self.point_of(point)))
+    }
+
     /// The points of whole contours, where there is memory for them.
-    fn contours_to_float(&self, contours: &[IntContour]) -> Result<Vec<FloatContour>, Fault> {
-        collect_all(contours.iter().map(|contour| self.contour_to_float(contour)))
+    pub(crate) fn contours_of<P: FloatPointCompatible>(
+        &self,
+        contours: &[IntContour],
+    ) -> Result<Vec<FloatContour<P>>, Fault> {
+        collect_all(contours.iter().map(|contour| self.points_of(contour)))
     }
 
     /// The points of whole shapes, where there is memory for them.
-    fn shapes_to_float(&self, shapes: &[IntShape]) -> Result<Vec<FloatShape>, Fault> {
-        collect_all(shapes.iter().map(|shape| self.contours_to_float(shape)))
+    pub(crate) fn shapes_of<P: FloatPointCompatible>(&self, shapes: &[IntShape]) -> Result<Vec<FloatShape<P>>, Fault> {
+        collect_all(shapes.iter().map(|shape| self.contours_of(shape)))
+    }
+
+    /// How far points moved at most that were rounded, and then overlaid with so many halves of a whole unit as reach.
+    pub(crate) fn reach_of(&self, halves: u128) -> f64 {
+        (0.5 + 0.5 * halves as f64) / self.scale + self.last_bit
     }
 }
 
@@ -267,6 +346,7 @@ fn greatest_scale(center: FloatPoint, least: FloatPoint, greatest: FloatPoint) -
 }
 
 /// An overlay of contours with floating coordinates: they are turned into whole points by one adapter, and the results back.
+/// Points are of any type that is [`FloatPointCompatible`].
 ///
 /// ```
 /// use fadrinzo::{FillRule, FloatOverlay, OverlayRule};
@@ -278,17 +358,19 @@ fn greatest_scale(center: FloatPoint, least: FloatPoint, greatest: FloatPoint) -
 /// # Ok::<(), fadrinzo::FloatError>(())
 /// ```
 #[derive(Debug)]
-pub struct FloatOverlay {
+pub struct FloatOverlay<P = FloatPoint> {
     pub(crate) overlay: Overlay,
-    adapter: FloatPointAdapter,
+    pub(crate) adapter: FloatPointAdapter,
     contour: IntContour,
     contour_counts: [usize; 2],
+    points: PhantomData<fn() -> P>,
 }
 
-impl FloatOverlay {
+impl<P: FloatPointCompatible> FloatOverlay<P> {
     /// An overlay of no contours by an adapter.
-    pub fn with_adapter(adapter: FloatPointAdapter) -> Result<FloatOverlay, FloatError> {
-        Ok(FloatOverlay { overlay: Overlay::new()?, adapter, contour: Vec::new(), contour_counts: [0; 2] })
+    pub fn with_adapter(adapter: FloatPointAdapter) -> Result<FloatOverlay<P>, FloatError> {
+        let overlay = Overlay::new()?;
+        Ok(FloatOverlay { overlay, adapter, contour: Vec::new(), contour_counts: [0; 2], points: PhantomData })
     }
 
     /// An overlay of contours, by the adapter of their bounds. Under [`FillRule::NonZero`] two contours that overlap and run in
@@ -301,7 +383,7 @@ impl FloatOverlay {
     /// let refused = FloatOverlay::with_contours(&[[[0.0, 0.0], [1.0, 0.0], [0.5, f64::NAN]]], &[]).unwrap_err();
     /// assert_eq!(refused.to_string(), "contour 0 of the subject, point 2: y is NaN, which is no finite number");
     /// ```
-    pub fn with_contours<C: AsRef<[FloatPoint]>>(subject: &[C], clip: &[C]) -> Result<FloatOverlay, FloatError> {
+    pub fn with_contours<C: AsRef<[P]>>(subject: &[C], clip: &[C]) -> Result<FloatOverlay<P>, FloatError> {
         let points = subject.iter().chain(clip).flat_map(|contour| contour.as_ref().iter().copied());
         let mut overlay = FloatOverlay::with_adapter(FloatPointAdapter::with_iter(points))?;
         for (contours, shape_type) in [(subject, ShapeType::Subject), (clip, ShapeType::Clip)] {
@@ -313,10 +395,11 @@ impl FloatOverlay {
     }
 
     /// Adds a contour behind the others of its shape. Where a point is not finite or outside of the bounds nothing is added.
-    pub fn add_contour(&mut self, contour: &[FloatPoint], shape_type: ShapeType) -> Result<(), FloatError> {
+    pub fn add_contour(&mut self, contour: &[P], shape_type: ShapeType) -> Result<(), FloatError> {
         let count = &mut self.contour_counts[shape_type as usize];
         self.contour.clear();
-        push_whole(&self.adapter, contour, shape_type, *count, &mut self.contour)?;
+        let bad = |point, at| bad_point(&self.adapter, shape_type, *count, point, at);
+        push_whole(&self.adapter, contour, &mut self.contour, bad)?;
         self.overlay.add_contour(&self.contour, shape_type)?;
         *count += 1;
         Ok(())
@@ -335,7 +418,7 @@ impl FloatOverlay {
     /// assert_eq!((shapes.len(), area_of_shape(&shapes[0])), (1, 0.75));
     /// # Ok::<(), fadrinzo::FloatError>(())
     /// ```
-    pub fn add_polygon<C: AsRef<[FloatPoint]>>(
+    pub fn add_polygon<C: AsRef<[P]>>(
         &mut self,
         outer: &C,
         holes: &[C],
@@ -346,7 +429,8 @@ impl FloatOverlay {
         reserve(&mut rings, 1 + holes.len())?;
         for (contour, ring) in (first..).zip(std::iter::once(outer).chain(holes)) {
             let mut whole = Vec::new();
-            push_whole(&self.adapter, ring.as_ref(), shape_type, contour, &mut whole)?;
+            let bad = |point, at| bad_point(&self.adapter, shape_type, contour, point, at);
+            push_whole(&self.adapter, ring.as_ref(), &mut whole, bad)?;
             push(&mut rings, whole)?;
         }
         self.overlay.add_polygon(&rings[0], &rings[1..], shape_type)?;
@@ -366,7 +450,7 @@ impl FloatOverlay {
     /// assert_eq!(overlay.overlay_shapes(OverlayRule::Subject, FillRule::NonZero)?[0].len(), 2);
     /// # Ok::<(), fadrinzo::FloatError>(())
     /// ```
-    pub fn add_shape<C: AsRef<[FloatPoint]>>(&mut self, shape: &[C], shape_type: ShapeType) -> Result<(), FloatError> {
+    pub fn add_shape<C: AsRef<[P]>>(&mut self, shape: &[C], shape_type: ShapeType) -> Result<(), FloatError> {
         match shape.split_first() {
             Some((outer, holes)) => self.add_polygon(outer, holes, shape_type),
             None => Ok(()),
@@ -379,7 +463,7 @@ impl FloatOverlay {
     }
 
     /// The same overlay, with a rounding for the contours that it overlays from now on.
-    pub fn with_rounding(mut self, rounding: Rounding) -> FloatOverlay {
+    pub fn with_rounding(mut self, rounding: Rounding) -> FloatOverlay<P> {
         self.overlay = self.overlay.with_rounding(rounding);
         self
     }
@@ -391,9 +475,13 @@ impl FloatOverlay {
     }
 
     /// The overlay as contours: outer boundaries run counterclockwise, and holes clockwise.
-    pub fn overlay(&mut self, overlay_rule: OverlayRule, fill_rule: FillRule) -> Result<Vec<FloatContour>, FloatError> {
+    pub fn overlay(
+        &mut self,
+        overlay_rule: OverlayRule,
+        fill_rule: FillRule,
+    ) -> Result<Vec<FloatContour<P>>, FloatError> {
         let contours = self.overlay.overlay(overlay_rule, fill_rule)?;
-        Ok(self.adapter.contours_to_float(&contours)?)
+        Ok(self.adapter.contours_of(&contours)?)
     }
 
     /// The overlay as shapes: each an outer boundary, followed by its holes.
@@ -401,9 +489,9 @@ impl FloatOverlay {
         &mut self,
         overlay_rule: OverlayRule,
         fill_rule: FillRule,
-    ) -> Result<Vec<FloatShape>, FloatError> {
+    ) -> Result<Vec<FloatShape<P>>, FloatError> {
         let shapes = self.overlay.overlay_shapes(overlay_rule, fill_rule)?;
-        Ok(self.adapter.shapes_to_float(&shapes)?)
+        Ok(self.adapter.shapes_of(&shapes)?)
     }
 
     /// The overlays by several rules, each as `overlay` returns it, in the order of the rules. The contours are split once.
@@ -421,9 +509,9 @@ impl FloatOverlay {
         &mut self,
         overlay_rules: &[OverlayRule],
         fill_rule: FillRule,
-    ) -> Result<Vec<Vec<FloatContour>>, FloatError> {
+    ) -> Result<Vec<Vec<FloatContour<P>>>, FloatError> {
         let overlays = self.overlay.overlay_by_rules(overlay_rules, fill_rule)?;
-        Ok(self.adapter.shapes_to_float(&overlays)?)
+        Ok(self.adapter.shapes_of(&overlays)?)
     }
 
     /// The overlay as shapes without the points at which a contour goes straight on.
@@ -441,9 +529,26 @@ impl FloatOverlay {
         &mut self,
         overlay_rule: OverlayRule,
         fill_rule: FillRule,
-    ) -> Result<Vec<FloatShape>, FloatError> {
-        let shapes = self.overlay.arrange(fill_rule)?.shapes_without_collinear(overlay_rule)?;
-        Ok(self.adapter.shapes_to_float(&shapes)?)
+    ) -> Result<Vec<FloatShape<P>>, FloatError> {
+        self.arrange(fill_rule)?.shapes_without_collinear(overlay_rule)
+    }
+
+    /// The arrangement of the contours that were added, under a fill rule: overlays by any rules come from it without another
+    /// split, as from [`Overlay::arrange`].
+    ///
+    /// ```
+    /// use fadrinzo::{FillRule, FloatOverlay, OverlayRule};
+    ///
+    /// let square = |low: f64, high: f64| [[low, low], [high, low], [high, high], [low, high]];
+    /// let mut overlay = FloatOverlay::with_contours(&[square(0.0, 0.5)], &[square(0.25, 0.75)])?;
+    /// let mut arrangement = overlay.arrange(FillRule::NonZero)?;
+    /// assert_eq!(arrangement.contours(OverlayRule::Union)?[0].len(), 8);
+    /// assert_eq!(arrangement.shapes(OverlayRule::Xor)?.len(), 2);
+    /// # Ok::<(), fadrinzo::FloatError>(())
+    /// ```
+    pub fn arrange(&mut self, fill_rule: FillRule) -> Result<FloatArrangement<'_, P>, FloatError> {
+        let arrangement = self.overlay.arrange(fill_rule)?;
+        Ok(FloatArrangement { arrangement, adapter: &self.adapter, points: PhantomData })
     }
 
     /// Where a point lies with respect to the contours of a shape that were added, as [`Overlay::locate_point`] returns it: the
@@ -459,7 +564,7 @@ impl FloatOverlay {
     /// assert_eq!(locate(f64::INFINITY, 0.25), PointLocation::Outside);
     /// # Ok::<(), fadrinzo::FloatError>(())
     /// ```
-    pub fn locate_point(&mut self, shape_type: ShapeType, fill_rule: FillRule, point: FloatPoint) -> PointLocation {
+    pub fn locate_point(&mut self, shape_type: ShapeType, fill_rule: FillRule, point: P) -> PointLocation {
         match self.adapter.to_int(point) {
             Some(point) => self.overlay.locate_point(shape_type, fill_rule, point),
             None => PointLocation::Outside,
@@ -474,26 +579,30 @@ impl FloatOverlay {
     /// How far the last overlay moved edges at most, in `x` and in `y`: what the rounding of given points moved them, what the
     /// rounding of crossings did, and the last bit of the bounds.
     pub fn reach(&self) -> f64 {
-        (0.5 + 0.5 * self.overlay.reach() as f64) / self.adapter.scale + self.adapter.last_bit
+        self.adapter.reach_of(self.overlay.reach())
     }
 }
 
-/// Pushes the whole points of a contour.
-fn push_whole(
+/// Pushes the whole points of a contour or of a line. The error of a point that the adapter does not take is the caller's.
+pub(crate) fn push_whole<P: FloatPointCompatible>(
     adapter: &FloatPointAdapter,
-    contour: &[FloatPoint],
-    shape_type: ShapeType,
-    index: usize,
+    points: &[P],
     whole: &mut IntContour,
+    bad: impl Fn(usize, FloatPoint) -> FloatError,
 ) -> Result<(), FloatError> {
-    reserve(whole, contour.len())?;
-    for (place, &point) in contour.iter().enumerate() {
-        let Some(it) = adapter.to_int(point) else {
-            return Err(bad_point(adapter, shape_type, index, place, point));
-        };
-        whole.push(it);
+    reserve(whole, points.len())?;
+    for (index, point) in points.iter().enumerate() {
+        whole.push(adapter.to_int(*point).ok_or_else(|| bad(index, [point.x(), point.y()]))?);
     }
     Ok(())
+}
+
+/// The first coordinate of a point that an adapter does not take, and its value.
+pub(crate) fn bad_coordinate(adapter: &FloatPointAdapter, at: FloatPoint) -> (Axis, f64) {
+    // the second coordinate is taken from within the bounds
+    let within = adapter.to_float(adapter.whole[0]);
+    let axis = if adapter.to_int([at[0], within[1]]).is_none() { Axis::X } else { Axis::Y };
+    (axis, at[axis as usize])
 }
 
 /// The error of a point that an adapter does not take.
@@ -504,10 +613,8 @@ fn bad_point(
     point: usize,
     at: FloatPoint,
 ) -> FloatError {
-    // the second coordinate is taken from within the bounds
-    let within = adapter.to_float(adapter.whole[0]);
-    let axis = if adapter.to_int([at[0], within[1]]).is_none() { Axis::X } else { Axis::Y };
-    FloatError::Point { shape_type, contour, point, axis, value: at[axis as usize] }
+    let (axis, value) = bad_coordinate(adapter, at);
+    FloatError::Point { shape_type, contour, point, axis, value }
 }
 
 /// The area of a contour with floating coordinates: negative where it runs clockwise. It is computed from the first point, so it
@@ -518,11 +625,15 @@ fn bad_point(
 ///
 /// let square = [[1e6, 1e6], [1e6 + 2.0, 1e6], [1e6 + 2.0, 1e6 + 2.0], [1e6, 1e6 + 2.0]];
 /// assert_eq!(area(&square), 4.0);
-/// assert_eq!(area(&[]), 0.0);
+/// assert_eq!(area::<[f64; 2]>(&[]), 0.0);
 /// ```
-pub fn area(contour: &[FloatPoint]) -> f64 {
-    let Some(&[x, y]) = contour.first() else { return 0.0 };
-    let side = |pair: &[FloatPoint]| (pair[0][0] - x) * (pair[1][1] - y) - (pair[0][1] - y) * (pair[1][0] - x);
+pub fn area<P: FloatPointCompatible>(contour: &[P]) -> f64 {
+    let Some(first) = contour.first() else { return 0.0 };
+    let from_first = |point: &P| (point.x() - first.x(), point.y() - first.y());
+    let side = |pair: &[P]| {
+        let ((px, py), (qx, qy)) = (from_first(&pair[0]), from_first(&pair[1]));
+        px * qy - py * qx
+    };
     contour.windows(2).map(side).sum::<f64>() / 2.0
 }
 
@@ -535,6 +646,6 @@ pub fn area(contour: &[FloatPoint]) -> f64 {
 /// let hole = [[1.0, 1.0], [1.0, 2.0], [2.0, 2.0], [2.0, 1.0]];
 /// assert_eq!(area_of_shape(&[outer, hole]), 15.0);
 /// ```
-pub fn area_of_shape<C: AsRef<[FloatPoint]>>(shape: &[C]) -> f64 {
+pub fn area_of_shape<P: FloatPointCompatible, C: AsRef<[P]>>(shape: &[C]) -> f64 {
     shape.iter().map(|contour| area(contour.as_ref())).sum()
 }

@@ -1,6 +1,6 @@
 //! Relations of the subject and the clip, exactly.
 
-use crate::{ffi, Error, Fault, FillRule, FloatError, FloatOverlay, Overlay, ShapeType, Solver};
+use crate::{ffi, Error, Fault, FillRule, FloatError, FloatOverlay, FloatPointCompatible, Overlay, ShapeType, Solver};
 use std::fmt;
 
 /// The codes of relations in the archive.
@@ -243,7 +243,7 @@ pub(crate) fn error_of(status: u8) -> Error {
 /// Relations of the points as the adapter rounded them: each is that of the whole points, exactly. Rounding moves each point by
 /// up to half a whole unit, so shapes that touch may meet or come apart by it. Where it makes two edges of one shape cross, the
 /// call returns [`Error::NotExact`] as [`FloatError::Overlay`].
-impl FloatOverlay {
+impl<P: FloatPointCompatible> FloatOverlay<P> {
     /// Whether some point is inside both shapes, as [`Overlay::interiors_meet`] returns it.
     ///
     /// ```

@@ -3,7 +3,10 @@
 mod common;
 
 use common::Random;
-use fadrinzo::{Axis, FillRule, FloatError, FloatOverlay, FloatPoint, FloatPointAdapter, OverlayRule, ShapeType};
+use fadrinzo::{
+    area, Axis, ClipRule, FillRule, FloatError, FloatOverlay, FloatPoint, FloatPointAdapter, FloatPointCompatible,
+    IntPoint, Overlay, OverlayRule, ShapeType,
+};
 
 /// Twice the area of a contour.
 fn doubled_area(contour: &[FloatPoint]) -> f64 {
@@ -199,4 +202,99 @@ fn the_chosen_scale_is_the_greatest_that_may_be() {
     assert_eq!(shapes.unwrap()[0][0].len(), 4);
     // a scale that the digits of the bounds do not hold
     assert!(matches!(FloatPointAdapter::with_scale([1e9; 2], [1e9 + 1e-3; 2], 1e9), Err(FloatError::Scale { .. })));
+}
+
+/// The contours that an overlay of points of a type returns, as arrays of `f64`.
+fn xor_of<P: FloatPointCompatible>(triangles: [[FloatPoint; 3]; 2]) -> Vec<Vec<FloatPoint>> {
+    let [subject, clip] = triangles.map(|triangle| triangle.map(|[x, y]| P::from_xy(x, y)));
+    let mut overlay = FloatOverlay::with_contours(&[subject], &[clip]).unwrap();
+    let contours = overlay.overlay(OverlayRule::Xor, FillRule::NonZero).unwrap();
+    contours.iter().map(|contour| contour.iter().map(|point| [point.x(), point.y()]).collect()).collect()
+}
+
+/// Arrays and pairs of both widths give the same overlay: corners with few bits are the same numbers in each, and crossings of
+/// `f32` are the nearest of that width.
+#[test]
+fn points_of_each_type_give_the_same_overlay() {
+    let mut random = Random(11);
+    for _ in 0..500 {
+        let triangles = [triangle(&mut random), triangle(&mut random)];
+        let wanted = xor_of::<[f64; 2]>(triangles);
+        assert_eq!(xor_of::<(f64, f64)>(triangles), wanted);
+        let narrow: Vec<Vec<FloatPoint>> =
+            wanted.iter().map(|it| it.iter().map(|at| at.map(|value| f64::from(value as f32))).collect()).collect();
+        assert_eq!(xor_of::<[f32; 2]>(triangles), narrow);
+        assert_eq!(xor_of::<(f32, f32)>(triangles), narrow);
+    }
+}
+
+/// An arrangement returns for each rule what an overlay by it returns.
+#[test]
+fn an_arrangement_has_the_overlay_of_each_rule() {
+    let mut random = Random(12);
+    for _ in 0..300 {
+        let mut overlay = FloatOverlay::with_contours(&[triangle(&mut random)], &[triangle(&mut random)]).unwrap();
+        for rule in [OverlayRule::Union, OverlayRule::Intersect, OverlayRule::Difference, OverlayRule::Xor] {
+            let contours = overlay.overlay(rule, FillRule::NonZero).unwrap();
+            let shapes = overlay.overlay_shapes(rule, FillRule::NonZero).unwrap();
+            let reach = overlay.reach();
+            let mut arrangement = overlay.arrange(FillRule::NonZero).unwrap();
+            assert_eq!(arrangement.contours(rule).unwrap(), contours);
+            assert_eq!(arrangement.shapes(rule).unwrap(), shapes);
+            assert_eq!((arrangement.passes(), arrangement.reach()), (1, reach));
+            let corners = arrangement.contours_without_collinear(rule).unwrap();
+            let total = |contours: &[Vec<FloatPoint>]| contours.iter().map(|it| area(it)).sum::<f64>();
+            assert!((total(&corners) - total(&contours)).abs() < 1e-6, "{corners:?} {contours:?}");
+        }
+    }
+}
+
+/// Lines of floats are cut as the whole points of the adapter are.
+#[test]
+fn lines_are_cut_as_their_whole_points_are() {
+    let mut random = Random(13);
+    let adapter = FloatPointAdapter::with_scale([0.0; 2], [8.0; 2], 1e6).unwrap();
+    let mut parts = 0;
+    for _ in 0..500 {
+        let (polygon, line) = (triangle(&mut random), triangle(&mut random));
+        let (whole_polygon, whole_line) =
+            (adapter.contour_to_int(&polygon).unwrap(), adapter.contour_to_int(&line).unwrap());
+        let clip_rule = ClipRule { invert: random.below(2) == 1, boundary_included: random.below(2) == 1 };
+        let mut overlay = FloatOverlay::with_adapter(adapter).unwrap();
+        let found = overlay.clip_lines(&[polygon], &[line], clip_rule, FillRule::NonZero).unwrap();
+        let whole =
+            Overlay::new().unwrap().clip_lines(&[whole_polygon], &[whole_line], clip_rule, FillRule::NonZero).unwrap();
+        let wanted: Vec<(usize, Vec<FloatPoint>)> =
+            whole.iter().map(|(line, part)| (*line, adapter.contour_to_float(part).unwrap())).collect();
+        assert_eq!(found, wanted);
+        parts += found.len();
+    }
+    assert!(parts > 300, "{parts}");
+    let mut overlay = FloatOverlay::with_adapter(adapter).unwrap();
+    let refused = overlay.clip_lines(
+        &[[(0.0, 0.0), (1.0, f64::NAN)]],
+        &[[(0.0, 0.0); 2]],
+        ClipRule::default(),
+        FillRule::NonZero,
+    );
+    assert_eq!(
+        refused.unwrap_err().to_string(),
+        "contour 0 of the subject, point 1: y is NaN, which is no finite number"
+    );
+}
+
+/// A grid of decimal digits returns what is written with these digits, and refuses digits for which the bounds have no room.
+#[test]
+fn digits_are_a_grid() {
+    let adapter = FloatPointAdapter::with_digits([-1.0; 2], [1.0; 2], 7).unwrap();
+    for number in [-9_999_999, -1_234_567, 1, 7, 7_654_321] {
+        let value = f64::from(number) / 1e7;
+        assert_eq!(adapter.to_int([value, 0.0]), Some(IntPoint::new(number, 0)));
+        assert_eq!(adapter.to_float(IntPoint::new(number, 0)), [value, 0.0]);
+    }
+    assert_eq!(FloatPointAdapter::with_digits([-1.0; 2], [1.0; 2], 0).unwrap().scale(), 1.0);
+    for digits in [10, 22, 23, 255] {
+        let refused = FloatPointAdapter::with_digits([-1.0; 2], [1.0; 2], digits).unwrap_err();
+        assert!(matches!(refused, FloatError::Scale { .. }), "{digits}");
+    }
 }

@@ -186,6 +186,9 @@ fn each_growth_of_floats_is_refused() {
     );
     try_each("FloatOverlay::overlay", make, |overlay| overlay.overlay(RULE, FILL));
     try_each("FloatOverlay::overlay_shapes", make, |overlay| overlay.overlay_shapes(RULE, FILL));
+    try_each("FloatOverlay::arrange", make, |overlay| overlay.arrange(FILL)?.shapes(RULE));
+    let clip_rule = ClipRule { invert: true, boundary_included: false };
+    try_each("FloatOverlay::clip_lines", make, |it| it.clip_lines(&floats[0], &floats[1], clip_rule, FILL));
 }
 
 /// A name is read and written without memory, but for the word that an error keeps.
