@@ -52,6 +52,7 @@ Rounding = typing.Literal["hot-pixels", "pairwise"]
 Scale = typing.TypeVar("Scale", float, decimal.Decimal, fractions.Fraction)
 Number = typing.TypeVar("Number", int, float, decimal.Decimal, fractions.Fraction)
 AnyScale = typing.Union[float, decimal.Decimal, fractions.Fraction]
+Origin = typing.Optional[typing.Iterable[Coordinate]]
 Ring = typing.List[typing.Tuple[Number, Number]]
 Shape = typing.Tuple[Ring[Number], typing.List[Ring[Number]]]
 Edge = typing.Tuple[typing.Tuple[int, int], typing.Tuple[int, int], int, int]
@@ -198,35 +199,81 @@ def _check_scale(scale):
         raise ValueError(f"the scale {_shown(scale)} is no finite number above 0")
 
 
-def _scaled(value, scale, where):
-    """A number times the scale, where that is in range, else one that is out of it."""
+class _Grid(typing.NamedTuple):
+    """How coordinates become whole ones, and back: less an origin, and times a scale. One of the two may be None."""
+
+    scale: typing.Any
+    origin: typing.Any
+
+    def __str__(self):
+        less = "" if self.origin is None else f" less the origin {self.origin}"
+        return less if self.scale is None else f"{less} times {self.scale}"
+
+    def returned(self, coordinates):
+        """The coordinates of a result, x and y after x and y."""
+        scale, origin = self
+        if origin is not None:
+            # one division, so that a decimal scale returns the nearest number to a decimal
+            moved = [value if scale is None else value * scale for value in origin]
+            coordinates = [number + moved[index % 2] for index, number in enumerate(coordinates)]
+        return coordinates if scale is None else [number / scale for number in coordinates]
+
+
+def _grid(scale, origin):
+    """The grid of a scale and an origin, or None where there is neither."""
+    _check_scale(scale)
+    if origin is None:
+        return None if scale is None else _Grid(scale, None)
+    found = _point(origin, "the origin")
+    for axis, value in zip("xy", found):
+        if scale is None:
+            _whole(value, f"the origin: {axis}")
+        elif isinstance(value, bool) or not isinstance(value, numbers.Number):
+            raise TypeError(f"the origin: {axis}: {_shown(value)} is no number")
+        elif not float("-inf") < value < float("inf"):
+            raise ValueError(f"the origin: {axis}: {_shown(value)} is no finite number")
+    return _Grid(scale, found)
+
+
+def _whole(value, where):
+    """A whole number."""
+    if isinstance(value, bool) or not hasattr(value, "__index__"):
+        raise TypeError(f"{where}: {_shown(value)} is no whole number; give a scale for others")
+    return value.__index__()
+
+
+def _scaled(value, grid, axis, where):
+    """A number less the origin and times the scale, where that is in range, else one that is out of it."""
     if not isinstance(value, numbers.Number):
         raise TypeError(f"{where}: {_shown(value)} is no number")
     try:
-        scaled = value * scale
+        scaled = (value if grid.origin is None else value - grid.origin[axis]) * grid.scale
         if scaled != scaled or scaled in (float("inf"), float("-inf")):
             raise ValueError(f"{where}: {_shown(value)} is no finite number")
         # a number far out of range is not rounded: it may have very many digits
         return round(scaled) if MIN_COORD - 1 < scaled < MAX_COORD + 1 else MAX_COORD + 1
     except TypeError as error:
-        raise TypeError(f"{where}: {_shown(value)} times the scale {_shown(scale)} is no number that can be rounded ({error})") from None
+        raise TypeError(f"{where}: {_shown(value)}{_shown_grid(grid)} is no number that can be rounded ({error})") from None
     except (OverflowError, decimal.Overflow):
         return MAX_COORD + 1
     except ArithmeticError:
         raise ValueError(f"{where}: {_shown(value)} is no finite number") from None
 
 
-def _coordinate(value, scale, where):
-    """A coordinate as the library takes it."""
-    if scale is not None:
-        number = _scaled(value, scale, where)
-    elif isinstance(value, bool) or not hasattr(value, "__index__"):
-        raise TypeError(f"{where}: {_shown(value)} is no whole number; give a scale for others")
+def _shown_grid(grid):
+    """What a grid does to a number, in a sentence."""
+    less = "" if grid.origin is None else f" less the origin {_shown(grid.origin)}"
+    return f"{less} times the scale {_shown(grid.scale)}"
+
+
+def _coordinate(value, grid, axis, where):
+    """A coordinate of an axis, 0 for x and 1 for y, as the library takes it."""
+    if grid is not None and grid.scale is not None:
+        number = _scaled(value, grid, axis, where)
     else:
-        number = value.__index__()
+        number = _whole(value, where) - (0 if grid is None else grid.origin[axis])
     if not MIN_COORD <= number <= MAX_COORD:
-        of_scale = "" if scale is None else f" times {scale}"
-        raise ValueError(f"{where}: {_shown(value)}{of_scale} is outside of {MIN_COORD} to {MAX_COORD}")
+        raise ValueError(f"{where}: {_shown(value)}{'' if grid is None else grid} is outside of {MIN_COORD} to {MAX_COORD}")
     return number
 
 
@@ -250,21 +297,21 @@ def _points(given, where):
     return [_point(point, f"{where}, point {index}") for index, point in enumerate(listed)]
 
 
-def _flat(points, scale, where):
+def _flat(points, grid, where):
     """The coordinates of points, x and y after x and y."""
     found = []
     for index, point in enumerate(points):
         at = f"{where}, point {index}"
-        found += [_coordinate(point[0], scale, f"{at}: x"), _coordinate(point[1], scale, f"{at}: y")]
+        found += [_coordinate(point[0], grid, 0, f"{at}: x"), _coordinate(point[1], grid, 1, f"{at}: y")]
     return found
 
 
-def _numbers(contour, scale, where):
+def _numbers(contour, grid, where):
     """The coordinates of a contour, without a last point that repeats the first."""
     points = _points(contour, where)
     if len(points) > 1 and points[0] == points[-1]:
         points.pop()
-    return _flat(points, scale, where)
+    return _flat(points, grid, where)
 
 
 def _check(status):
@@ -274,26 +321,26 @@ def _check(status):
         raise error(_calls().fadrinzo_text(status).decode())
 
 
-def _contours(result, scale):
+def _contours(result, grid):
     """The contours of a result."""
     for index in range(result.contours):
         start, end = result.contour_starts[index], result.contour_starts[index + 1]
         numbers = result.xy[2 * start:2 * end]
-        if scale is not None:
-            numbers = [number / scale for number in numbers]
+        if grid is not None:
+            numbers = grid.returned(numbers)
         yield list(zip(numbers[::2], numbers[1::2]))
 
 
-def _parts(result, scale):
+def _parts(result, grid):
     """The contours of a result, shape by shape or rule by rule."""
-    contours = list(_contours(result, scale))
+    contours = list(_contours(result, grid))
     starts = result.shape_starts[:result.shapes + 1]
     return [contours[start:end] for start, end in zip(starts, starts[1:])]
 
 
-def _shapes(handle, scale):
+def _shapes(handle, grid):
     """The result of a handle in shapes, each an outer boundary and the list of its holes."""
-    return [(contours[0], contours[1:]) for contours in _parts(_calls().fadrinzo_get(handle), scale)]
+    return [(contours[0], contours[1:]) for contours in _parts(_calls().fadrinzo_get(handle), grid)]
 
 
 def _filled(add):
@@ -309,10 +356,9 @@ def _filled(add):
     return handle
 
 
-def _load_contours(subject, clip, scale):
+def _load_contours(subject, clip, grid):
     """An overlay of the library with these contours, which the caller frees."""
-    _check_scale(scale)
-    given = [[_numbers(contour, scale, f"contour {index} of the {name}") for index, contour in enumerate(contours)]
+    given = [[_numbers(contour, grid, f"contour {index} of the {name}") for index, contour in enumerate(contours)]
              for name, contours in [("subject", subject), ("clip", clip)]]
 
     def add(handle):
@@ -323,10 +369,9 @@ def _load_contours(subject, clip, scale):
     return _filled(add)
 
 
-def _load_polygons(subject, clip, scale):
+def _load_polygons(subject, clip, grid):
     """An overlay of the library with these polygons, which the caller frees."""
-    _check_scale(scale)
-    given = [[[_numbers(ring, scale, f"{where}, ring {index}") for index, ring in enumerate(rings)]
+    given = [[[_numbers(ring, grid, f"{where}, ring {index}") for index, ring in enumerate(rings)]
               for where, rings in _polygons(polygons, name)] for name, polygons in [("subject", subject), ("clip", clip)]]
 
     def add(handle):
@@ -395,23 +440,24 @@ def _owned(handle):
         _calls().fadrinzo_free(handle)
 
 
-def _loaded(subject, clip, scale):
+def _loaded(subject, clip, grid):
     """An overlay of the library with these contours, freed at the end."""
-    return _owned(_load_contours(subject, clip, scale))
+    return _owned(_load_contours(subject, clip, grid))
 
 
 @typing.overload
-def overlay(subject: Contours, clip: Contours, rule: Rule, fill: Fill = "nonzero", scale: None = None) -> typing.List[Shape[int]]: ...
+def overlay(subject: Contours, clip: Contours, rule: Rule, fill: Fill = "nonzero", scale: None = None, origin: Origin = None) -> typing.List[Shape[int]]: ...
 @typing.overload
-def overlay(subject: Contours, clip: Contours, rule: Rule, fill: Fill = "nonzero", *, scale: Scale) -> typing.List[Shape[Scale]]: ...
+def overlay(subject: Contours, clip: Contours, rule: Rule, fill: Fill = "nonzero", *, scale: Scale, origin: Origin = None) -> typing.List[Shape[Scale]]: ...
 @typing.overload
-def overlay(subject: Contours, clip: Contours, rule: Rule, fill: Fill, scale: Scale) -> typing.List[Shape[Scale]]: ...
-def overlay(subject: Contours, clip: Contours, rule: Rule, fill: Fill = "nonzero", scale: typing.Optional[AnyScale] = None) -> typing.Any:
+def overlay(subject: Contours, clip: Contours, rule: Rule, fill: Fill, scale: Scale, origin: Origin = None) -> typing.List[Shape[Scale]]: ...
+def overlay(subject: Contours, clip: Contours, rule: Rule, fill: Fill = "nonzero", scale: typing.Optional[AnyScale] = None, origin: Origin = None) -> typing.Any:
     """The overlay of two lists of contours: a list of shapes, each an outer boundary and the list of its holes.
 
     A contour is a list of points, each x and y, whole numbers from MIN_COORD to MAX_COORD; a last point that repeats the first is
     left out. With a `scale`, coordinates may be any numbers: each is multiplied by it and rounded, and results are divided by it.
-    A scale of 1,000 or more leaves room below the unit, so that small overlaps do not vanish.
+    A scale of 1,000 or more leaves room below the unit, so that small overlaps do not vanish. With an `origin`, which is a point, it is
+    subtracted before that, and added to results: so coordinates far from zero, as meters of a map, keep their digits.
 
     Under "nonzero" two contours that overlap and run in opposite directions cancel. Under the fill "evenodd" the direction of a contour
     changes the region by no more than half a unit, but it may change points: edges with the same two ends that run against one another
@@ -421,18 +467,19 @@ def overlay(subject: Contours, clip: Contours, rule: Rule, fill: Fill = "nonzero
     MemoryError where there is no memory; then another call may follow.
     """
     rule_code, fill_code = _code("rule", rule, RULES), _code("fill", fill, FILLS)
-    with _loaded(subject, clip, scale) as handle:
+    grid = _grid(scale, origin)
+    with _loaded(subject, clip, grid) as handle:
         _check(_calls().fadrinzo_overlay_shapes(handle, rule_code, fill_code))
-        return _shapes(handle, scale)
+        return _shapes(handle, grid)
 
 
 @typing.overload
-def overlay_polygons(subject: Polygons, clip: Polygons, rule: Rule, fill: Fill = "nonzero", scale: None = None) -> typing.List[Shape[int]]: ...
+def overlay_polygons(subject: Polygons, clip: Polygons, rule: Rule, fill: Fill = "nonzero", scale: None = None, origin: Origin = None) -> typing.List[Shape[int]]: ...
 @typing.overload
-def overlay_polygons(subject: Polygons, clip: Polygons, rule: Rule, fill: Fill = "nonzero", *, scale: Scale) -> typing.List[Shape[Scale]]: ...
+def overlay_polygons(subject: Polygons, clip: Polygons, rule: Rule, fill: Fill = "nonzero", *, scale: Scale, origin: Origin = None) -> typing.List[Shape[Scale]]: ...
 @typing.overload
-def overlay_polygons(subject: Polygons, clip: Polygons, rule: Rule, fill: Fill, scale: Scale) -> typing.List[Shape[Scale]]: ...
-def overlay_polygons(subject: Polygons, clip: Polygons, rule: Rule, fill: Fill = "nonzero", scale: typing.Optional[AnyScale] = None) -> typing.Any:
+def overlay_polygons(subject: Polygons, clip: Polygons, rule: Rule, fill: Fill, scale: Scale, origin: Origin = None) -> typing.List[Shape[Scale]]: ...
+def overlay_polygons(subject: Polygons, clip: Polygons, rule: Rule, fill: Fill = "nonzero", scale: typing.Optional[AnyScale] = None, origin: Origin = None) -> typing.Any:
     """The overlay of two lists of polygons, as `overlay` returns it, whichever way their rings run.
 
     A polygon is a pair of its outer boundary and the list of its holes, as results have them, or the list of its rings, the outer boundary
@@ -447,9 +494,10 @@ def overlay_polygons(subject: Polygons, clip: Polygons, rule: Rule, fill: Fill =
     [([(0, 9), (0, 0), (9, 0), (9, 9)], [])]
     """
     rule_code, fill_code = _code("rule", rule, RULES), _code("fill", fill, FILLS)
-    with _owned(_load_polygons(subject, clip, scale)) as handle:
+    grid = _grid(scale, origin)
+    with _owned(_load_polygons(subject, clip, grid)) as handle:
         _check(_calls().fadrinzo_overlay_shapes(handle, rule_code, fill_code))
-        return _shapes(handle, scale)
+        return _shapes(handle, grid)
 
 
 class Arrangement(typing.Generic[Number]):
@@ -468,16 +516,17 @@ class Arrangement(typing.Generic[Number]):
     """
 
     @typing.overload
-    def __init__(self: Arrangement[int], subject: Contours, clip: Contours, fill: Fill = "nonzero", scale: None = None) -> None: ...
+    def __init__(self: Arrangement[int], subject: Contours, clip: Contours, fill: Fill = "nonzero", scale: None = None, origin: Origin = None) -> None: ...
     @typing.overload
-    def __init__(self: Arrangement[float], subject: Contours, clip: Contours, fill: Fill = "nonzero", scale: float = ...) -> None: ...
+    def __init__(self: Arrangement[float], subject: Contours, clip: Contours, fill: Fill = "nonzero", scale: float = ..., origin: Origin = None) -> None: ...
     @typing.overload
-    def __init__(self: Arrangement[decimal.Decimal], subject: Contours, clip: Contours, fill: Fill = "nonzero", scale: decimal.Decimal = ...) -> None: ...
+    def __init__(self: Arrangement[decimal.Decimal], subject: Contours, clip: Contours, fill: Fill = "nonzero", scale: decimal.Decimal = ..., origin: Origin = None) -> None: ...
     @typing.overload
-    def __init__(self: Arrangement[fractions.Fraction], subject: Contours, clip: Contours, fill: Fill = "nonzero", scale: fractions.Fraction = ...) -> None: ...
-    def __init__(self, subject: Contours, clip: Contours, fill: Fill = "nonzero", scale: typing.Optional[AnyScale] = None) -> None:
+    def __init__(self: Arrangement[fractions.Fraction], subject: Contours, clip: Contours, fill: Fill = "nonzero", scale: fractions.Fraction = ..., origin: Origin = None) -> None: ...
+    def __init__(self, subject: Contours, clip: Contours, fill: Fill = "nonzero", scale: typing.Optional[AnyScale] = None, origin: Origin = None) -> None:
         fill_code = _code("fill", fill, FILLS)
-        self._handle, self._scale = _load_contours(subject, clip, scale), scale
+        self._grid = _grid(scale, origin)
+        self._handle = _load_contours(subject, clip, self._grid)
         self._lock = threading.Lock()
         weakref.finalize(self, _calls().fadrinzo_free, self._handle)
         _check(_calls().fadrinzo_arrange(self._handle, fill_code))
@@ -491,7 +540,7 @@ class Arrangement(typing.Generic[Number]):
         code = _code("rule", rule, RULES)
         with self._lock:
             _check(_calls().fadrinzo_arranged_shapes(self._handle, code, not collinear))
-            return _shapes(self._handle, self._scale)
+            return _shapes(self._handle, self._grid)
 
     @property
     def reach(self) -> int:
@@ -513,16 +562,16 @@ class Arrangement(typing.Generic[Number]):
         code = _code("rule", rule, RULES)
         with self._lock:
             _check(_calls().fadrinzo_arranged(self._handle, code, not collinear))
-            return list(_contours(_calls().fadrinzo_get(self._handle), self._scale))
+            return list(_contours(_calls().fadrinzo_get(self._handle), self._grid))
 
 
 @typing.overload
-def overlay_by_rules(subject: Contours, clip: Contours, rules: typing.Iterable[Rule], fill: Fill = "nonzero", scale: None = None) -> typing.List[typing.List[Ring[int]]]: ...
+def overlay_by_rules(subject: Contours, clip: Contours, rules: typing.Iterable[Rule], fill: Fill = "nonzero", scale: None = None, origin: Origin = None) -> typing.List[typing.List[Ring[int]]]: ...
 @typing.overload
-def overlay_by_rules(subject: Contours, clip: Contours, rules: typing.Iterable[Rule], fill: Fill = "nonzero", *, scale: Scale) -> typing.List[typing.List[Ring[Scale]]]: ...
+def overlay_by_rules(subject: Contours, clip: Contours, rules: typing.Iterable[Rule], fill: Fill = "nonzero", *, scale: Scale, origin: Origin = None) -> typing.List[typing.List[Ring[Scale]]]: ...
 @typing.overload
-def overlay_by_rules(subject: Contours, clip: Contours, rules: typing.Iterable[Rule], fill: Fill, scale: Scale) -> typing.List[typing.List[Ring[Scale]]]: ...
-def overlay_by_rules(subject: Contours, clip: Contours, rules: typing.Iterable[Rule], fill: Fill = "nonzero", scale: typing.Optional[AnyScale] = None) -> typing.Any:
+def overlay_by_rules(subject: Contours, clip: Contours, rules: typing.Iterable[Rule], fill: Fill, scale: Scale, origin: Origin = None) -> typing.List[typing.List[Ring[Scale]]]: ...
+def overlay_by_rules(subject: Contours, clip: Contours, rules: typing.Iterable[Rule], fill: Fill = "nonzero", scale: typing.Optional[AnyScale] = None, origin: Origin = None) -> typing.Any:
     """The overlays of two lists of contours by several rules, of one split: for each rule a list of contours, in the order of the
     rules. Outer boundaries run counterclockwise, and holes clockwise.
 
@@ -532,9 +581,10 @@ def overlay_by_rules(subject: Contours, clip: Contours, rules: typing.Iterable[R
     [[[(2, 4), (2, 2), (4, 2), (4, 4)]], [[(0, 4), (0, 0), (4, 0), (4, 2), (4, 4), (2, 4)]]]
     """
     codes, fill_code = [_code("rule", rule, RULES) for rule in rules], _code("fill", fill, FILLS)
-    with _loaded(subject, clip, scale) as handle:
+    grid = _grid(scale, origin)
+    with _loaded(subject, clip, grid) as handle:
         _check(_calls().fadrinzo_overlay_by_rules(handle, (ctypes.c_int * len(codes))(*codes), len(codes), fill_code))
-        return _parts(_calls().fadrinzo_get(handle), scale)
+        return _parts(_calls().fadrinzo_get(handle), grid)
 
 
 def _count(value, where):
@@ -555,7 +605,7 @@ def _edge(segment, where):
         raise TypeError(f"{where}: {_shown(segment)} is no segment of two ends") from None
     if len(found) not in (2, 4):
         raise ValueError(f"{where}: {_shown(segment)} has {len(found)} parts, not two ends, or these and two counts")
-    (ax, ay), (bx, by) = [[_coordinate(value, None, f"{where}, {end} end: {axis}") for axis, value in zip("xy", _point(point, f"{where}, {end} end"))]
+    (ax, ay), (bx, by) = [[_coordinate(value, None, 0, f"{where}, {end} end: {axis}") for axis, value in zip("xy", _point(point, f"{where}, {end} end"))]
                           for end, point in zip(("first", "second"), found)]
     subject, clip = [_count(value, f"{where}, {name}") for name, value in zip(("subject", "clip"), found[2:] or (1, 0))]
     if (ax, ay) == (bx, by):
@@ -590,7 +640,7 @@ def split(segments: typing.Iterable[Segment], rounding: Rounding = "hot-pixels")
         return [((edge.ax, edge.ay), (edge.bx, edge.by), edge.subject, edge.clip) for edge in found.edges[:found.count]]
 
 
-def locate(contours: Contours, point: typing.Iterable[Coordinate], fill: Fill = "nonzero", scale: typing.Optional[AnyScale] = None) -> Location:
+def locate(contours: Contours, point: typing.Iterable[Coordinate], fill: Fill = "nonzero", scale: typing.Optional[AnyScale] = None, origin: Origin = None) -> Location:
     """Where a point lies with respect to contours, exactly: "boundary" if it lies on a step of one of them, else "inside" or "outside"
     under the fill rule. With a `scale` the point is multiplied by it and rounded, as the contours are.
 
@@ -598,21 +648,21 @@ def locate(contours: Contours, point: typing.Iterable[Coordinate], fill: Fill = 
     ['inside', 'boundary', 'outside']
     """
     fill_code = _code("fill", fill, FILLS)
-    _check_scale(scale)
-    x, y = _numbers([point], scale, "the point")
-    with _loaded(contours, [], scale) as handle:
+    grid = _grid(scale, origin)
+    x, y = _numbers([point], grid, "the point")
+    with _loaded(contours, [], grid) as handle:
         return LOCATIONS[_calls().fadrinzo_locate(handle, 0, fill_code, x, y)]
 
 
-def _relation(relation, subject, clip, fill, scale):
+def _relation(relation, subject, clip, fill, grid):
     """Whether a relation holds."""
     fill_code, holds = _code("fill", fill, FILLS), ctypes.c_int()
-    with _loaded(subject, clip, scale) as handle:
+    with _loaded(subject, clip, grid) as handle:
         _check(_calls().fadrinzo_relation(handle, RELATIONS[relation], fill_code, ctypes.byref(holds)))
         return bool(holds.value)
 
 
-def interiors_meet(subject: Contours, clip: Contours, fill: Fill = "nonzero", scale: typing.Optional[AnyScale] = None) -> bool:
+def interiors_meet(subject: Contours, clip: Contours, fill: Fill = "nonzero", scale: typing.Optional[AnyScale] = None, origin: Origin = None) -> bool:
     """Whether some point is inside both of two lists of contours, exactly: points have any rational coordinates, and nothing is rounded.
 
     Shapes that share parts of their boundaries alone do not meet. Arguments and errors are those of `overlay`. With a `scale` the relation
@@ -626,57 +676,57 @@ def interiors_meet(subject: Contours, clip: Contours, fill: Fill = "nonzero", sc
     >>> interiors_meet([square], [[(4, 4), (6, 4), (6, 6), (4, 6)]])
     False
     """
-    return _relation("interiors-meet", subject, clip, fill, scale)
+    return _relation("interiors-meet", subject, clip, fill, _grid(scale, origin))
 
 
-def covers(subject: Contours, clip: Contours, fill: Fill = "nonzero", scale: typing.Optional[AnyScale] = None) -> bool:
+def covers(subject: Contours, clip: Contours, fill: Fill = "nonzero", scale: typing.Optional[AnyScale] = None, origin: Origin = None) -> bool:
     """Whether each point inside the clip is inside the subject. Arguments and errors are those of `interiors_meet`.
 
     >>> covers([[(0, 0), (4, 0), (4, 4), (0, 4)]], [[(0, 0), (4, 0), (4, 3)]])
     True
     """
-    return _relation("covers", subject, clip, fill, scale)
+    return _relation("covers", subject, clip, fill, _grid(scale, origin))
 
 
-def is_within(subject: Contours, clip: Contours, fill: Fill = "nonzero", scale: typing.Optional[AnyScale] = None) -> bool:
+def is_within(subject: Contours, clip: Contours, fill: Fill = "nonzero", scale: typing.Optional[AnyScale] = None, origin: Origin = None) -> bool:
     """Whether each point inside the subject is inside the clip. Arguments and errors are those of `interiors_meet`.
 
     >>> is_within([[(0, 0), (4, 0), (4, 4), (0, 4)]], [[(0, 0), (4, 0), (4, 3)]])
     False
     """
-    return _relation("is-within", subject, clip, fill, scale)
+    return _relation("is-within", subject, clip, fill, _grid(scale, origin))
 
 
-def same_region(subject: Contours, clip: Contours, fill: Fill = "nonzero", scale: typing.Optional[AnyScale] = None) -> bool:
+def same_region(subject: Contours, clip: Contours, fill: Fill = "nonzero", scale: typing.Optional[AnyScale] = None, origin: Origin = None) -> bool:
     """Whether each point is inside both of two lists of contours, or inside neither. Arguments and errors are those of `interiors_meet`.
 
     >>> same_region([[(0, 0), (4, 0), (4, 4), (0, 4)]], [[(4, 4), (4, 0), (0, 0), (0, 3), (0, 4)]])
     True
     """
-    return _relation("same-region", subject, clip, fill, scale)
+    return _relation("same-region", subject, clip, fill, _grid(scale, origin))
 
 
-def touches(subject: Contours, clip: Contours, fill: Fill = "nonzero", scale: typing.Optional[AnyScale] = None) -> bool:
+def touches(subject: Contours, clip: Contours, fill: Fill = "nonzero", scale: typing.Optional[AnyScale] = None, origin: Origin = None) -> bool:
     """Whether two lists of contours share a point, inside or on their boundaries, and no point is inside both. Arguments and errors are
     those of `interiors_meet`.
 
     >>> touches([[(0, 0), (4, 0), (4, 4), (0, 4)]], [[(4, 4), (6, 4), (6, 6), (4, 6)]])
     True
     """
-    return _relation("touch", subject, clip, fill, scale)
+    return _relation("touch", subject, clip, fill, _grid(scale, origin))
 
 
-def is_disjoint(subject: Contours, clip: Contours, fill: Fill = "nonzero", scale: typing.Optional[AnyScale] = None) -> bool:
+def is_disjoint(subject: Contours, clip: Contours, fill: Fill = "nonzero", scale: typing.Optional[AnyScale] = None, origin: Origin = None) -> bool:
     """Whether two lists of contours share no point, neither inside nor on their boundaries. Arguments and errors are those of
     `interiors_meet`.
 
     >>> is_disjoint([[(0, 0), (4, 0), (4, 4), (0, 4)]], [[(4, 4), (6, 4), (6, 6), (4, 6)]])
     False
     """
-    return _relation("disjoint", subject, clip, fill, scale)
+    return _relation("disjoint", subject, clip, fill, _grid(scale, origin))
 
 
-def relate(subject: Contours, clip: Contours, fill: Fill = "nonzero", scale: typing.Optional[AnyScale] = None) -> str:
+def relate(subject: Contours, clip: Contours, fill: Fill = "nonzero", scale: typing.Optional[AnyScale] = None, origin: Origin = None) -> str:
     """Which parts of two lists of contours meet: nine letters, T where some point is in both parts and F where none is, row by row for the
     interior, the boundary and the exterior of the subject, as OGC's matrix without dimensions. Arguments and errors are those of
     `interiors_meet`.
@@ -685,12 +735,12 @@ def relate(subject: Contours, clip: Contours, fill: Fill = "nonzero", scale: typ
     'FFTFTTTTT'
     """
     fill_code, letters = _code("fill", fill, FILLS), ctypes.create_string_buffer(10)
-    with _loaded(subject, clip, scale) as handle:
+    with _loaded(subject, clip, _grid(scale, origin)) as handle:
         _check(_calls().fadrinzo_relate(handle, fill_code, letters))
         return letters.value.decode()
 
 
-def relate_pattern(subject: Contours, clip: Contours, pattern: str, fill: Fill = "nonzero", scale: typing.Optional[AnyScale] = None) -> bool:
+def relate_pattern(subject: Contours, clip: Contours, pattern: str, fill: Fill = "nonzero", scale: typing.Optional[AnyScale] = None, origin: Origin = None) -> bool:
     """Whether the letters of `relate` are those of a pattern: T, F, or * for either. Other arguments and errors are those of
     `interiors_meet`; ValueError where the pattern has other letters, as digits of dimensions, or not nine.
 
@@ -699,7 +749,7 @@ def relate_pattern(subject: Contours, clip: Contours, pattern: str, fill: Fill =
     """
     if not isinstance(pattern, str) or len(pattern) != 9 or not set(pattern) <= set("TF*"):
         raise ValueError(f"the pattern {_shown(pattern)} is not nine letters of T, F and *")
-    return all(letter in ("*", found) for letter, found in zip(pattern, relate(subject, clip, fill, scale)))
+    return all(letter in ("*", found) for letter, found in zip(pattern, relate(subject, clip, fill, scale, origin)))
 
 
 from fadrinzo.clip import clip_lines  # noqa: E402  (it takes names from above)

@@ -23,9 +23,9 @@ PREDICATES = {
 class _Region:
     """The coordinates of a region's contours, the box around them, and its number once it is prepared."""
 
-    def __init__(self, contours, scale, where):
+    def __init__(self, contours, grid, where):
         self.where, self.number = where, None
-        self.contours = [base._numbers(contour, scale, f"contour {index} of {where}") for index, contour in enumerate(contours)]
+        self.contours = [base._numbers(contour, grid, f"contour {index} of {where}") for index, contour in enumerate(contours)]
         xs = [x for numbers in self.contours for x in numbers[::2]]
         ys = [y for numbers in self.contours for y in numbers[1::2]]
         self.bounds = (min(xs), min(ys), max(xs), max(ys)) if xs else None
@@ -45,9 +45,9 @@ class _Region:
         return self.number
 
 
-def _regions(given, scale, name):
+def _regions(given, grid, name):
     """The regions of a list."""
-    return [_Region(contours, scale, f"region {index} of the {name} list") for index, contours in enumerate(given)]
+    return [_Region(contours, grid, f"region {index} of the {name} list") for index, contours in enumerate(given)]
 
 
 def _candidates(first, second):
@@ -65,7 +65,8 @@ def _candidates(first, second):
 
 
 def related_pairs(first: typing.Iterable[base.Contours], second: typing.Iterable[base.Contours], predicate: Predicate = "share-point",
-                  fill: base.Fill = "nonzero", scale: typing.Optional[base.AnyScale] = None) -> typing.List[typing.Tuple[int, int]]:
+                  fill: base.Fill = "nonzero", scale: typing.Optional[base.AnyScale] = None,
+                  origin: base.Origin = None) -> typing.List[typing.Tuple[int, int]]:
     """The pairs of numbers of a first and a second region that are in a relation, in order, each once, exactly: a region is a list of
     contours. No pair that shares no point is returned. Only pairs whose boxes share a point are looked at, and what depends on one region
     alone is done once.
@@ -78,8 +79,8 @@ def related_pairs(first: typing.Iterable[base.Contours], second: typing.Iterable
     """
     wanted = base._code("predicate", predicate, PREDICATES)
     fill_code, holds = base._code("fill", fill, base.FILLS), ctypes.c_int()
-    base._check_scale(scale)
-    firsts, seconds = _regions(first, scale, "first"), _regions(second, scale, "second")
+    grid = base._grid(scale, origin)
+    firsts, seconds = _regions(first, grid, "first"), _regions(second, grid, "second")
     found = []
     with base._owned(base._filled(lambda handle: None)) as handle:
 
