@@ -6,11 +6,12 @@ use Rattle.overlay_base.specs.EdgeData.{Hooks, DataSegment, without_data}
 use Rattle.overlay_base.specs.Join.{join}
 use Rattle.overlay_base.specs.Segments.{WholeSegment}
 use Rattle.overlay_build.specs.Laid.{AreLaid}
-use Rattle.overlay_contours.specs.Splittings.{Splitting, by_passes, by_snapping}
+use Rattle.overlay_contours.specs.Splittings.{Splitting, by_passes, by_snapping, SumsLeaveRange}
 use Rattle.overlay_cuts.specs.DataPass.{data_after_passes}
 use Rattle.overlay_snapping.specs.Chains.{AreSnapCuts}
 use Rattle.overlay_snapping.specs.SnapOf.{data_snap}
 use Rattle.i_overlay.specs.Courses.{Course}
+use Rattle.i_overlay.specs.Headline.{IsSplitBy}
 use Rattle.i_overlay.specs.declared.line_numbers.LineNumbers.{LineNumbers}
 
 -- Hooks that gather numbers: a part has those of the whole, and of two segments that are merged the sum has those of both.
@@ -50,3 +51,9 @@ pub record TellsLines (course : Course) (given segments : List WholeSegment) (li
   pub laid : AreLaid (map (λ s. s.edge_data) numbered) (line_counts_of lines) (line_numbers_of lines)
   -- the numbers are those that the split gathers
   pub gathered : HaveNumbers course.splitting course.passes given numbered
+
+-- A split with numbers: the list is that of the split, the numbers are those of its segments, and no sum was too large.
+pub record SplitsLines (course : Course) (given segments : List WholeSegment) (found : LineNumbers) : Type 0 where
+  pub split : IsSplitBy course given segments
+  pub lines : TellsLines course given segments found
+  pub fits : SumsLeaveRange course.splitting given → ⊥

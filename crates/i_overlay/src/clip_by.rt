@@ -90,6 +90,8 @@ pub fn split_and_build_clip_with_numbers<'a, I: OverlayInt>(
         (segments_of segments.old.items) (segments_of segments.new.items) lines.new) }
     ensures graph { IfOk result (λ graph. HasItsNodes graph) }
     ensures arranged { IsArranged segments.new.items }
+    ensures unchanged { IsArranged segments.old.items → OnOk result
+        (segments_of segments.new.items ≡ segments_of segments.old.items) }
 
     ensures fits { OnOk result (SumsLeaveRange (splitting_over solver.now splitter.old segments.old)
         (segments_of segments.old.items) → ⊥) }
@@ -98,6 +100,7 @@ pub fn split_and_build_clip_with_numbers<'a, I: OverlayInt>(
         (segments_of segments.old.items) ⊎ IsTrue (tops_leave_range (segments_of segments.new.items))) }
     ensures stands { OnErr result ((segments_of segments.new.items ≡ []) ⊎ IsSplitBy (course_over solver.now splitter.old
         splitter.new segments.old) (segments_of segments.old.items) (segments_of segments.new.items)) }
+    ensures looked { OnOk result (LooksAreFew solver.now splitter.old splitter.new segments.old) }
     ensures settings { IsSetAsBefore splitter.old splitter.new }
     ensures asked { IfOk result (λ graph. IsCostOf solver.now segments.new.items (lines_asked graph)) }
     ensures same_builder { IfOk result (λ graph. builder_name graph ≡ builder.entry.ghost_name) }

@@ -4,9 +4,8 @@ ghost use Rattle.overlay_base.specs.ArrangedOf.{IsSplittable, IsArranged};
 ghost use Rattle.overlay_base.specs.FaultOf.{OnTooLarge};
 ghost use Rattle.overlay_base.specs.SegmentOf.{segments_of};
 ghost use Rattle.overlay_contours.specs.Splittings.{SumsLeaveRange};
-ghost use Rattle.i_overlay.specs.Headline.{IsSplitBy};
-ghost use Rattle.i_overlay.specs.LineNumbers.{TellsLines, line_counts_of, line_numbers_of};
-ghost use Rattle.i_overlay.specs.SplitterOf.{splitting_over, course_over, IsSetAsBefore};
+ghost use Rattle.i_overlay.specs.LineNumbers.{SplitsLines, line_counts_of, line_numbers_of};
+ghost use Rattle.i_overlay.specs.SplitterOf.{splitting_over, course_over, LooksAreFew, IsSetAsBefore};
 
 use crate::number_lists::{NumberLists, StringSegment, keep_numbers, keep_segments, number_lines};
 use crate::splitter::Splitter;
@@ -56,7 +55,7 @@ impl LineNumbers {
     /// that comes there twice is there twice.
     ///
     /// Where lines overlap more than their number lets expect, the list is split a second time, by the room that the first
-    /// split was found to take.
+    /// split was found to take. A list that `is_arranged` stays as it is.
     ///
     /// Returns the faults of `Splitter::split_segments`. Where a call is refused the list is empty, and nothing is promised
     /// of the numbers. Splitter and numbers can be used again.
@@ -67,17 +66,15 @@ impl LineNumbers {
         solver: &Solver,
     ) -> Result<(), Fault>
         requires { IsSplittable segments.old.items }
-        ensures split { OnOk result (IsSplitBy (course_over solver.now splitter.old splitter.new segments.old)
-            (segments_of segments.old.items) (segments_of segments.new.items)) }
-        ensures lines { OnOk result (TellsLines (course_over solver.now splitter.old splitter.new segments.old)
-            (segments_of segments.old.items) (segments_of segments.new.items)
-            self.new) }
+        ensures split { OnOk result (SplitsLines (course_over solver.now splitter.old splitter.new segments.old)
+            (segments_of segments.old.items) (segments_of segments.new.items) self.new) }
         ensures arranged { IsArranged segments.new.items }
-        ensures fits { OnOk result (SumsLeaveRange (splitting_over solver.now splitter.old segments.old)
-            (segments_of segments.old.items) → ⊥) }
+        ensures unchanged { IsArranged segments.old.items → OnOk result
+            (segments_of segments.new.items ≡ segments_of segments.old.items) }
         ensures too_large { OnTooLarge result (SumsLeaveRange (splitting_over solver.now splitter.old segments.old)
             (segments_of segments.old.items)) }
         ensures emptied { OnErr result (segments.new.items ≡ []) }
+        ensures looked { OnOk result (LooksAreFew solver.now splitter.old splitter.new segments.old) }
         ensures settings { IsSetAsBefore splitter.old splitter.new }
     {
         let split = self.split_with_enough_room(splitter, segments, solver);
@@ -95,16 +92,14 @@ impl LineNumbers {
         solver: &Solver,
     ) -> Result<(), Fault>
         requires { IsSplittable segments.old.items }
-        ensures split { OnOk result (IsSplitBy (course_over solver.now splitter.old splitter.new segments.old)
-            (segments_of segments.old.items) (segments_of segments.new.items)) }
-        ensures lines { OnOk result (TellsLines (course_over solver.now splitter.old splitter.new segments.old)
-            (segments_of segments.old.items) (segments_of segments.new.items)
-            self.new) }
+        ensures split { OnOk result (SplitsLines (course_over solver.now splitter.old splitter.new segments.old)
+            (segments_of segments.old.items) (segments_of segments.new.items) self.new) }
         ensures arranged { OnOk result (IsArranged segments.new.items) }
-        ensures fits { OnOk result (SumsLeaveRange (splitting_over solver.now splitter.old segments.old)
-            (segments_of segments.old.items) → ⊥) }
+        ensures unchanged { IsArranged segments.old.items → OnOk result
+            (segments_of segments.new.items ≡ segments_of segments.old.items) }
         ensures too_large { OnTooLarge result (SumsLeaveRange (splitting_over solver.now splitter.old segments.old)
             (segments_of segments.old.items)) }
+        ensures looked { OnOk result (LooksAreFew solver.now splitter.old splitter.new segments.old) }
         ensures settings { IsSetAsBefore splitter.old splitter.new }
     {
         let room = segments.len().saturating_mul(2).saturating_add(64);
@@ -128,17 +123,15 @@ impl LineNumbers {
         room: usize,
     ) -> Result<bool, Fault>
         requires { IsSplittable segments.old.items }
-        ensures split { IfOk result (λ enough. IsTrue enough → IsSplitBy (course_over solver.now splitter.old splitter.new
-            segments.old) (segments_of segments.old.items) (segments_of segments.new.items)) }
-        ensures lines { IfOk result (λ enough. IsTrue enough → TellsLines (course_over solver.now splitter.old splitter.new
-            segments.old) (segments_of segments.old.items) (segments_of segments.new.items)
-            self.new) }
+        ensures split { IfOk result (λ enough. IsTrue enough → SplitsLines (course_over solver.now splitter.old splitter.new
+            segments.old) (segments_of segments.old.items) (segments_of segments.new.items) self.new) }
         ensures arranged { IfOk result (λ enough. IsTrue enough → IsArranged segments.new.items) }
+        ensures unchanged { IsArranged segments.old.items → IfOk result (λ enough. IsTrue enough →
+            segments_of segments.new.items ≡ segments_of segments.old.items) }
         ensures stays { IfOk result (λ enough. IsFalse enough → segments.new ≡ segments.old) }
-        ensures fits { OnOk result (SumsLeaveRange (splitting_over solver.now splitter.old segments.old)
-            (segments_of segments.old.items) → ⊥) }
         ensures too_large { OnTooLarge result (SumsLeaveRange (splitting_over solver.now splitter.old segments.old)
             (segments_of segments.old.items)) }
+        ensures looked { OnOk result (LooksAreFew solver.now splitter.old splitter.new segments.old) }
         ensures settings { IsSetAsBefore splitter.old splitter.new }
     {
         let mut lists = NumberLists::with_room(self.alloc, segments.len(), room)?;

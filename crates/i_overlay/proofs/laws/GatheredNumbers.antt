@@ -1,6 +1,6 @@
 -- The numbers in the table of a split are those that it gathers of the given lines.
 use Rattle.std.proofs.Common.{◌≡◌, ◌∙◌, ◌==◌, ℕ, ◌+◌, ◌<◌, ◌≤◌, sym, ap, ap₂, subst, refl, arith, Bool, true, false, if◌then◌else◌, List, [], ◌∷◌, map, length, take, drop, get_or}
-use Rattle.std.specs.Prelude.{Vec}
+use Rattle.std.specs.Prelude.{Option, Vec}
 use Rattle.std.specs.Global.{Global}
 use Rattle.std.specs.List.{enumerate_from, range_with_len}
 use Rattle.std.proofs.lemmas.List.FromFn.{length-range_with_len, get_or-range_with_len}
@@ -8,18 +8,27 @@ use Rattle.std.proofs.Common.{drop-cons}
 use Rattle.overlay_geometry.specs.Points.{Point, Pair}
 use Rattle.overlay_base.specs.EdgeData.{DataSegment, Hooks, without_data, data_join}
 use Rattle.overlay_base.specs.Join.{join}
+use Rattle.overlay_base.specs.Radius.{exponent_cap}
 use Rattle.overlay_base.specs.SegmentOf.{segments_of, data_segments_of}
 use Rattle.overlay_base.specs.Segments.{WholeSegment}
 use Rattle.overlay_base.specs.declared.segm.segment.Segment.{Segment}
 use Rattle.overlay_base.specs.declared.segm.string.ShapeCountString.{ShapeCountString}
 use Rattle.overlay_base.proofs.laws.joins.Views.{segments_of-bare}
+use Rattle.overlay_base.specs.declared.overlay_core.solver.Solver.{Solver}
+use Rattle.overlay_grid.specs.Grid.{Layout}
 use Rattle.overlay_cuts.specs.DataPass.{data_after_passes}
+use Rattle.overlay_split.specs.RunLooks.{AreRunLooks}
+use Rattle.overlay_split.specs.SettingsOf.{settings_of, snap_limit_of, passes_of, looked_of}
+use Rattle.overlay_split.specs.declared.split.solver.SplitSolver.{SplitSolver}
 use Rattle.overlay_snapping.specs.Chains.{AreSnapCuts}
 use Rattle.overlay_snapping.specs.SnapOf.{data_snap}
 use Rattle.overlay_contours.specs.Splittings.{Splitting, by_passes, by_snapping}
+use Rattle.overlay_contours.specs.declared.rounding.Rounding.{Rounding}
+use Rattle.overlay_contours.specs.declared.rounding.Rounding.TheVariants.{HotPixels, Pairwise}
 use Rattle.i_overlay.specs.LineNumbers.{gathering, with_number, with_numbers, HaveNumbers}
 use Rattle.i_overlay.specs.NumberLists.{IsWhole, numbers_in, named_in, with_index, numbered, gathered}
 use Rattle.i_overlay.specs.SplitLists.{HasDataOf, LeavesStoreBy}
+use Rattle.i_overlay.specs.SplitterOf.{BoundsLooks}
 use Rattle.i_overlay.specs.declared.number_lists.NumberList.{NumberList}
 use Rattle.i_overlay.specs.declared.number_lists.NumberLists.{NumberLists}
 use Rattle.i_overlay.specs.contracts.number_lists.NumberListOverlayEdgeDataShapeCountString.TheImpl.{ghosts}
@@ -141,3 +150,24 @@ module _ (given : List WholeSegment) (s : NumberLists) (room : ℕ) (is : number
       let made' = made on cuts' ∙ ap₂ (λ xs t. (data_snap listing on xs t).0) same first in
       let left' = leaves on cuts' ∙ ap (λ xs. (data_snap listing on xs s).1) same in
       ap₂ (λ t xs. map (told_by t) xs) left' made' ∙ by_snap on (subst IsWhole left' whole)
+
+-- ---- the looks
+
+-- What bounds the looks of passes speaks of the segments alone, whatever their data is.
+pub looks_alike : {C I D E : Type 0} {m : _} {w : _} {o : _} {e : _} {p : _} (r : Rounding) (solver : Solver) (before after : SplitSolver I) (xs : Vec (Segment C I D m w o e p) Global) (ys : Vec (Segment C I E m w o e p) Global) →
+    segments_of xs.items ≡ segments_of ys.items → BoundsLooks r solver before after xs → BoundsLooks r solver before after ys
+looks_alike HotPixels solver before after xs ys same h = h
+looks_alike {w = w} Pairwise solver before after xs ys same h =
+    subst (λ (l : List WholeSegment). (grid : Option Layout) × AreRunLooks solver.strategy (settings_of w.BITS solver before) l grid (passes_of after) (looked_of after)) same h
+
+-- nor does it depend on more of the splitter before than how it rounds and how many passes may snap
+looks_set : {C I D : Type 0} {m : _} {w : _} {o : _} {e : _} {p : _} (r : Rounding) (solver : Solver) (before mid after : SplitSolver I) → snap_limit_of mid ≡ snap_limit_of before → (xs : Vec (Segment C I D m w o e p) Global) →
+    BoundsLooks r solver mid after xs → BoundsLooks r solver before after xs
+looks_set HotPixels solver before mid after same xs h = h
+looks_set {w = w} Pairwise solver before mid after same xs h =
+    subst (λ (n : ℕ). (grid : Option Layout) × AreRunLooks solver.strategy (record { start = solver.precision.start; progression = solver.precision.progression; cap = exponent_cap w.BITS; limit = n }) (segments_of xs.items) grid (passes_of after) (looked_of after)) same h
+
+pub looks_again : {C I D : Type 0} {m : _} {w : _} {o : _} {e : _} {p : _} (r other : Rounding) → other ≡ r → (solver : Solver) (before mid after : SplitSolver I) → snap_limit_of mid ≡ snap_limit_of before →
+    (xs ys : Vec (Segment C I D m w o e p) Global) → xs ≡ ys → BoundsLooks other solver mid after xs → BoundsLooks r solver before after ys
+looks_again r other e solver before mid after same xs ys is h =
+    looks_set r solver before mid after same ys (subst (λ (v : Vec _ Global). BoundsLooks r solver mid after v) is (subst (λ (q : Rounding). BoundsLooks q solver mid after xs) e h))

@@ -31,7 +31,7 @@ returns-clause-clip g c =
     IfOk-weaker c.build_string_clip.result
     (λ built. HoldGraph items_of is_any_node whole (line_nodes_of built) (line_links_of built) (graph_by (keeps_clip c.args.clip_rule) c.args.fill_rule segments))
     (λ built. IsClipBy course c.args.fill_rule c.args.clip_rule given segments (graph_with whole (line_links_of built)))
-    (λ built h. clip_from course c.args.fill_rule c.args.clip_rule given segments _ (segments_ordered c.args.segments.now.items) (small_masks _ _ given c.requires) e.split (graph_with_kept items_of is_any_node whole (line_nodes_of built) (line_links_of built) (keeps_clip c.args.clip_rule) c.args.fill_rule segments h) balanced)
+    (λ built h. clip_from course c.args.fill_rule c.args.clip_rule given segments _ (segments_ordered c.args.segments.now.items) (small_masks _ _ given c.requires) e.split.split (graph_with_kept items_of is_any_node whole (line_nodes_of built) (line_links_of built) (keeps_clip c.args.clip_rule) c.args.fill_rule segments h) balanced)
     (rw c.deref.ensures.value at c.build_string_clip.ensures.graph)
 
 pub returns-clause-graph : goal.returns-clause-graph
@@ -44,10 +44,16 @@ returns-clause-graph g c =
     c.build_string_clip.ensures.graph
 
 pub returns-clause-lines : goal.returns-clause-lines
-returns-clause-lines g c = on_ok_weaker _ (λ _. c.in_ok-split.ensures.lines) c.build_string_clip.ensures.in_range
+returns-clause-lines g c = on_ok_weaker _ (λ _. c.in_ok-split.ensures.split.lines) c.build_string_clip.ensures.in_range
+
+pub returns-clause-unchanged : goal.returns-clause-unchanged
+returns-clause-unchanged g c = λ arranged. on_ok_weaker _ (λ _. c.in_ok-split.ensures.unchanged arranged) c.build_string_clip.ensures.in_range
+
+pub returns-clause-looked : goal.returns-clause-looked
+returns-clause-looked g c = on_ok_weaker _ (λ _. c.in_ok-split.ensures.looked) c.build_string_clip.ensures.in_range
 
 pub returns-clause-fits : goal.returns-clause-fits
-returns-clause-fits g c = on_ok_weaker _ (λ _. c.in_ok-split.ensures.fits) c.build_string_clip.ensures.in_range
+returns-clause-fits g c = on_ok_weaker _ (λ _. c.in_ok-split.ensures.split.fits) c.build_string_clip.ensures.in_range
 
 pub returns-clause-too_large : goal.returns-clause-too_large
 returns-clause-too_large g c =
@@ -63,7 +69,7 @@ returns-clause-stands g c =
     let segments : List WholeSegment = segments_of c.split.new.segments.items in
     let course : Course = course_over c.args.solver.now c.args.splitter.now c.split.new.splitter c.args.segments.now in
     IfErr-weaker c.build_string_clip.result (λ (fault : Fault). fault ≡ CountOutOfRange → IsTrue (tops_leave_range segments))
-    (λ (fault : Fault). (segments ≡ []) ⊎ IsSplitBy course given segments) (λ fault h. inr c.in_ok-split.ensures.split)
+    (λ (fault : Fault). (segments ≡ []) ⊎ IsSplitBy course given segments) (λ fault h. inr c.in_ok-split.ensures.split.split)
     (rw c.deref.ensures.value at c.build_string_clip.ensures.out_of_range)
 
 pub returns-clause-asked : goal.returns-clause-asked
