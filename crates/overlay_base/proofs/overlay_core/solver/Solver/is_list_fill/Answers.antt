@@ -1,5 +1,5 @@
 use Rattle.std.proofs.Common.{refl}
-use Rattle.overlay_base.proofs.overlay_core.list_fill.Solver.is_list_fill.Goals as goal
+use Rattle.overlay_base.proofs.overlay_core.solver.Solver.is_list_fill.Goals as goal
 
 pub returns-in-List : goal.returns-in-List
 returns-in-List g c = rw c.in-List.is refl
