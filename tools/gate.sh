@@ -82,6 +82,19 @@ test_calls() {
     python3 tools/try_packages.py || return 1
     FADRINZO_SO="$room/c/libfadrinzo.so" PYTHONPATH=python python3 -B -m unittest discover -s python/tests >"$room/calls" 2>&1 \
         || { cat "$room/calls"; return 1; }
+    test_dask
+}
+
+# Runs the example over Dask by the Python of the system, where the first one in PATH, whose run has left it out, has no Dask.
+test_dask() {
+    local has_dask='import importlib.util, sys; sys.exit(importlib.util.find_spec("distributed") is None)'
+    python3 -B -c "$has_dask" && return
+    if ! /usr/bin/python3 -B -c "$has_dask"; then
+        printf '%5d s: the example over Dask was not run: it is not installed\n' "$SECONDS"
+        return
+    fi
+    FADRINZO_SO="$room/c/libfadrinzo.so" PYTHONPATH=python /usr/bin/python3 -B -m unittest discover -s python/tests -p test_dask.py \
+        >"$room/calls" 2>&1 || { cat "$room/calls"; return 1; }
 }
 
 # Makes the page of that code and compares it with the shared library, in node and in Chromium, where these are.

@@ -20,7 +20,7 @@ import typing
 
 from . import FILLS, RULES, Contours, Fill, Ring, Rule, Shape, _calls, _check, _code, _contours, _filled, _numbers, _owned, _shapes
 
-__all__ = ["clip_to_tile", "join_tiles", "overlay_tile", "overlay_tiled", "tiles_around"]
+__all__ = ["clip_to_tile", "divide_part", "join_tiles", "overlay_tile", "overlay_tiled", "tiles_around"]
 
 Tile = typing.Tuple[int, int, int, int]
 
@@ -153,6 +153,21 @@ def _reaches(shape, tile):
     return min(xs) == tile[0] or max(xs) == tile[2] or min(ys) == tile[1] or max(ys) == tile[3]
 
 
+def divide_part(part: typing.Iterable[Shape[int]], tile: Tile) -> typing.Tuple[typing.List[Shape[int]], typing.List[Shape[int]]]:
+    """The shapes of a tile's part in two lists: those apart from its border, and those that reach it.
+
+    The first are shapes of the whole overlay. So `join_tiles` needs the others alone, which other tiles continue.
+
+    >>> near, far = [(1, 1), (2, 1), (2, 2)], [(3, 8), (4, 9), (3, 9)]
+    >>> divide_part([(near, []), (far, [])], (0, 0, 4, 10))
+    ([([(1, 1), (2, 1), (2, 2)], [])], [([(3, 8), (4, 9), (3, 9)], [])])
+    """
+    whole, reaching = [], []
+    for shape in part:
+        (reaching if _reaches(shape, tile) else whole).append(shape)
+    return whole, reaching
+
+
 def overlay_tiled(subject: Contours, clip: Contours, rule: Rule, fill: Fill = "nonzero", tiles: int = 16,
                   threads: typing.Optional[int] = None) -> typing.List[Shape[int]]:
     """The overlay of two lists of contours, tile by tile, on so many threads, or as many as there are processors.
@@ -174,5 +189,5 @@ def overlay_tiled(subject: Contours, clip: Contours, rule: Rule, fill: Fill = "n
             for future in futures:
                 future.cancel()
             raise
-    inner = [shape for part, tile in zip(parts, made) for shape in part if not _reaches(shape, tile)]
-    return inner + join_tiles([[shape for shape in part if _reaches(shape, tile)] for part, tile in zip(parts, made)])
+    divided = [divide_part(part, tile) for part, tile in zip(parts, made)]
+    return [shape for whole, _ in divided for shape in whole] + join_tiles([reaching for _, reaching in divided])
