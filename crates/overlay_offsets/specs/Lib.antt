@@ -1,0 +1,4 @@
+pub mod Outlines
+pub mod Convex
+pub mod ConvexOf
+pub mod Laws
