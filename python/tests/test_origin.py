@@ -14,10 +14,14 @@ def square(low, high):
     return [(low, low), (high, low), (high, high), (low, high)]
 
 
+def moved_ring(ring, x, y):
+    """A ring, moved."""
+    return [(px + x, py + y) for px, py in ring]
+
+
 def moved(shapes, x, y):
     """Shapes, moved."""
-    return [tuple([(px + x, py + y) for px, py in ring] if ring and isinstance(ring[0], tuple) else
-                  [[(px + x, py + y) for px, py in hole] for hole in ring] for ring in shape) for shape in shapes]
+    return [(moved_ring(outer, x, y), [moved_ring(hole, x, y) for hole in holes]) for outer, holes in shapes]
 
 
 class TestOrigin(unittest.TestCase):
